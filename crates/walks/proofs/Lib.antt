@@ -1,0 +1,12 @@
+pub mod Marking
+pub mod Steps
+pub mod Correct
+pub mod Fuel
+pub mod Run
+pub mod Speed
+pub mod Engine
+pub mod First
+pub mod Choice
+pub mod Machine
+pub mod Same
+pub mod Instances
