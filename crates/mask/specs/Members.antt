@@ -11,3 +11,7 @@ overMembers n m f s = over n (λ k. guard (holds m k) (f k)) s
 -- the set whose digit j is d j: `for j in 0..n { m = m | d(j) << j }`
 unfoldable pub gather : ℕ → (ℕ → ℕ) → ℕ
 gather n d = over n (λ j m. bitOr m (d j * 2 ^ j)) 0
+
+-- the union of f 0, .., f (n - 1)
+unfoldable pub unionOf : ℕ → (ℕ → ℕ) → ℕ
+unionOf n f = over n (λ k m. bitOr m (f k)) 0
