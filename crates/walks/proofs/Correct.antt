@@ -11,7 +11,7 @@ use lib.Dec.{eqb}
 use Rattle.loops.specs.Sum.{sum, tally}
 use Rattle.walks.specs.Marks.{Marks, count}
 use Rattle.walks.specs.Walk.{Graph, Reach, first, next, WalkEnd, others, named}
-use Rattle.walks.specs.Search.{fresh, search}
+use Rattle.walks.specs.Search.{fresh, openingSearch}
 use Rattle.loops.proofs.Tests.{both}
 use Rattle.loops.proofs.Sums.{sum-le, sum-zero, sum-at, tally-le, pairs-mono}
 use Rattle.walks.proofs.Marking.{count-none}
@@ -70,13 +70,13 @@ module _ (G : Graph) (K : Marks (G .jobs) (G .databases)) where
 
   module _ (new : G .new < G .jobs) (f : ℕ) (enough : G .jobs * G .databases < f) where
     abbrev R : K .M
-    R = search G K f .reached
+    R = openingSearch G K f .reached
 
     abbrev F : K .M
-    F = search G K f .found
+    F = openingSearch G K f .found
 
-    search-next : Next G K (Come G (G .new) (G .databases)) (fresh K) (search G K f) × Done G K R F (G .new) (G .databases)
-    unfolding fresh search
+    search-next : Next G K (Come G (G .new) (G .databases)) (fresh K) (openingSearch G K f) × Done G K R F (G .new) (G .databases)
+    unfolding fresh openingSearch
     search-next = visit-next G K f (G .new) (G .databases) new (fresh K) ((K .good-none, K .good-none), omega arith)
 
     sound-end : Sound G K R F
@@ -95,23 +95,23 @@ module _ (G : Graph) (K : Marks (G .jobs) (G .databases)) where
     walk-reached (next {t = t} {v = v} {u = u} {w = w} r turn l ne) = reached-done v t (walk-reached r) u w turn l .enters ne
 
     -- what is reached is what walks reach
-    pub reached-iff : (w u : ℕ) → (K .has (search G K f .reached) w u ≡ true) ↔ Reach G w u
+    pub reached-iff : (w u : ℕ) → (K .has (openingSearch G K f .reached) w u ≡ true) ↔ Reach G w u
     reached-iff w u = (sound-end .walks w u, walk-reached)
 
     -- what is found is what walks end with
-    pub found-iff : (v u : ℕ) → (K .has (search G K f .found) v u ≡ true) ↔ WalkEnd G v u
+    pub found-iff : (v u : ℕ) → (K .has (openingSearch G K f .found) v u ≡ true) ↔ WalkEnd G v u
     found-iff v u = (
       sound-end .ends v u,
       λ h. reached-done v (h .through) (walk-reached (h .walk)) u (G .new) (h .turns) (h .closes) .closes refl,
     )
 
     -- two moves for each pair reached, and one for each pair found
-    pub moves-are : search G K f .moves ≡ 2 * count K (search G K f .reached) + count K (search G K f .found)
+    pub moves-are : openingSearch G K f .moves ≡ 2 * count K (openingSearch G K f .reached) + count K (openingSearch G K f .found)
     unfolding fresh
     moves-are = omega (arith, search-next .0 .tally, count-none K)
 
     -- at most three moves for each database that another job names
-    pub moves-le : search G K f .moves ≤ 3 * named G
+    pub moves-le : openingSearch G K f .moves ≤ 3 * named G
     moves-le =
         omega (
           arith,
@@ -121,5 +121,5 @@ module _ (G : Graph) (K : Marks (G .jobs) (G .databases)) where
         )
 
     -- with 32 jobs and 16 databases at most 1488
-    pub moves-cap : search G K f .moves + 3 * G .databases ≤ 3 * (G .jobs * G .databases)
+    pub moves-cap : openingSearch G K f .moves + 3 * G .databases ≤ 3 * (G .jobs * G .databases)
     moves-cap = omega (arith, moves-le, named-le G new)

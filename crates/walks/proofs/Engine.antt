@@ -9,7 +9,7 @@ use Rattle.loops.specs.Sum.{tally}
 use Rattle.walks.specs.Marks.{Marks}
 use Rattle.loops.specs.Sum.{pairs}
 use Rattle.walks.specs.Walk.{Graph, Reach, first, next, WalkEnd, named}
-use Rattle.walks.specs.Search.{search}
+use Rattle.walks.specs.Search.{openingSearch}
 use Rattle.walks.specs.Plain.{plain}
 use Rattle.walks.specs.Engine.{Engine, Alike}
 use Rattle.loops.proofs.Sums.{sum-same, pairs-mono}
@@ -63,7 +63,7 @@ engine G R F R′ F′ m m′ E E′ =
 -- ---- the nested search is an engine
 
 pub search-engine : (G : Graph) (K : Marks (G .jobs) (G .databases)) → G .new < G .jobs → (f : ℕ) → G .jobs * G .databases < f
-    → Engine G (K .has (search G K f .reached)) (K .has (search G K f .found)) (search G K f .moves)
+    → Engine G (K .has (openingSearch G K f .reached)) (K .has (openingSearch G K f .found)) (openingSearch G K f .moves)
 search-engine G K new f enough = engine-of G _ _ _ (reached-iff G K new f enough) (found-iff G K new f enough) (moves-are G K new f enough)
 
 -- pairs that are sound are at most those that the search has: two for each reached and one for each found are at most 3 × E
@@ -77,6 +77,6 @@ sound-le G new R F walks ends =
       arith,
       moves-are G K new f enough,
       moves-le G K new f enough,
-      pairs-mono (G .jobs) (G .databases) R (search G K f .reached) (λ w u e. reached-iff G K new f enough w u .1 (walks w u e)),
-      pairs-mono (G .jobs) (G .databases) F (search G K f .found) (λ v u e. found-iff G K new f enough v u .1 (ends v u e)),
+      pairs-mono (G .jobs) (G .databases) R (openingSearch G K f .reached) (λ w u e. reached-iff G K new f enough w u .1 (walks w u e)),
+      pairs-mono (G .jobs) (G .databases) F (openingSearch G K f .found) (λ v u e. found-iff G K new f enough v u .1 (ends v u e)),
     )

@@ -3,7 +3,6 @@ pub mod Steps
 pub mod Correct
 pub mod Fuel
 pub mod Run
-pub mod Speed
 pub mod Engine
 pub mod First
 pub mod Choice

@@ -13,7 +13,7 @@ use lib.ListN.{length}
 use Rattle.walks.specs.Marks.{Marks, count}
 use Rattle.walks.specs.Walk.{Graph, Link, Reach, first, next, WalkEnd, named}
 use Rattle.walks.specs.Machine.{Place, Standing, choice, closingMove, forwardMove, moveTo, returnMove, act, step, onward, after, atNew, machine}
-use Rattle.walks.specs.Search.{search}
+use Rattle.walks.specs.Search.{openingSearch}
 use Rattle.walks.specs.Engine.{Made, Engine, Alike}
 use Rattle.loops.proofs.Tests.{both}
 use Rattle.walks.proofs.Marking.{count-none, put-more, put-only, count-put}
@@ -271,7 +271,7 @@ module _ (G : Graph) (K : Marks (G .jobs) (G .databases)) (new : G .new < G .job
     -- M3: it reaches and finds what the nested search does, in as many moves, in whatever way the sets are kept
     pub machine-search : (H : Marks (G .jobs) (G .databases)) (f : ℕ) → G .jobs * G .databases < f
         → Alike G (K .has (machine G K k .reached)) (K .has (machine G K k .found)) (machine G K k .moves)
-        (H .has (search G H f .reached)) (H .has (search G H f .found)) (search G H f .moves)
+        (H .has (openingSearch G H f .reached)) (H .has (openingSearch G H f .found)) (openingSearch G H f .moves)
     machine-search H f h = engine G _ _ _ _ _ _ machine-engine (search-engine G H new f h)
 
 -- any two bounds that suffice give the same

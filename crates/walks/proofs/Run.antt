@@ -8,7 +8,7 @@ use mathlib.Core.Path.{_≡_}
 use Rattle.loops.specs.Loop.{over}
 use Rattle.walks.specs.Marks.{Marks, count}
 use Rattle.walks.specs.Walk.{Graph}
-use Rattle.walks.specs.Search.{Seek, markReached, choose, pass, visit, run, fresh, search}
+use Rattle.walks.specs.Search.{Seek, markReached, choose, pass, visit, run, fresh, openingSearch}
 use Rattle.loops.proofs.Rules.{both-steps, over-rule, over-agree}
 use Rattle.walks.proofs.Marking.{count-le, count-mono, count-put}
 use Rattle.walks.proofs.Steps.{Come, Good, Ok, Next, Goes, steps, choose-next, pass-next, visit-next}
@@ -66,6 +66,6 @@ module _ (G : Graph) (K : Marks (G .jobs) (G .databases)) where
         over-rule (steps G K (Come G v t) (suc (left s))) (λ w r. Unit {0}) (λ w a b q x. tt) (choose G K (run G K) v u) k
         (λ w hw r o. (choose-next G K (left s) (run G K) (run-goes (left s)) v t hv u hu turn e w (omega arith) r o .0, tt)) s (left-ok s g) .0
 
-  pub search-run : (f : ℕ) → G .new < G .jobs → G .jobs * G .databases < f → search G K f ≡ run G K (G .new) (G .databases) (fresh K)
-  unfolding search
+  pub search-run : (f : ℕ) → G .new < G .jobs → G .jobs * G .databases < f → openingSearch G K f ≡ run G K (G .new) (G .databases) (fresh K)
+  unfolding openingSearch
   search-run f new h = run-visit f (G .new) (G .databases) new (fresh K) ((K .good-none, K .good-none), omega arith)

@@ -169,7 +169,7 @@ module _ (G : Graph) (K : Marks (G .jobs) (G .databases)) where
       ))
       (λ p. (stays _ s, record { closes = λ q. not-false _ p; enters = λ q. absurd (q e) }))
 
-  -- what is asked of the search from a job on
+  -- what is asked of the openingSearch from a job on
   abbrev pub Goes : ℕ → (ℕ → ℕ → Seek K → Seek K) → Type 0
   Goes f go = (v t : ℕ) → v < G .jobs → (s : Seek K) → Ok f s → To v t (λ R F. Done R F v t) s (go v t s)
 

@@ -61,6 +61,6 @@ module _ (G : Graph) (K : Marks (G .jobs) (G .databases)) where
   run v t s = visit (suc (G .jobs * G .databases - count K (s .reached))) v t s
 
   -- the new job is reached through no database: `databases` is none
-  unfoldable pub search : ℕ → Seek K
+  unfoldable pub openingSearch : ℕ → Seek K
   unfolding visit pass across choose forward closing back markFound markReached fresh over guard choice
-  search f = visit f (G .new) (G .databases) (fresh K)
+  openingSearch f = visit f (G .new) (G .databases) (fresh K)
