@@ -1,5 +1,7 @@
 // The report keeps transaction nodes and site nodes apart. Here each kind of number is a type of its own, so a ticket cannot index a slot.
 
+pub mod maker;
+
 // A job's number, given out when it is opened. A closed job's number may come back, so a ticket tells nothing about age.
 pub struct Ticket(pub u16);
 
