@@ -1,0 +1,8 @@
+//! The host side of the coordinator: implementations of document 01 written
+//! from its text alone, streams of records to play through them, and the place
+//! where the proved library is set against them.
+
+pub mod call;
+pub mod layout;
+pub mod plain;
+pub mod records;
