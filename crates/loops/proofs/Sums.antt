@@ -38,6 +38,12 @@ sum-zero (suc K) g e =
     let ih = sum-zero K g (λ k l. e k (omega arith)) in
     omega (arith, e K (le-refl (suc K)))
 
+-- the first taken off instead of the last
+pub sum-first : (K : ℕ) (g : ℕ → ℕ) → sum (suc K) g ≡ g 0 + sum K (λ k. g (suc k))
+unfolding sum
+sum-first zero g = omega arith
+sum-first (suc K) g = omega (arith, sum-first K g)
+
 -- g and h agree but at i, where h has d more: so has its sum
 pub sum-at : (K i d : ℕ) (g h : ℕ → ℕ) → i < K → ((k : ℕ) → k < K → ¬ (k ≡ i) → h k ≡ g k) → h i ≡ g i + d → sum K h ≡ sum K g + d
 unfolding sum

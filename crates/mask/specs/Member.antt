@@ -3,7 +3,8 @@ use mathlib.Core.Bool.{Bool}
 use Prim.Native.Nat.{ℕ, _+_, _-_, _*_, _/_, _%_, _^_}
 use lib.Bits.{bitAnd}
 use lib.Count.{onesIn, trailingZeros}
-use lib.Dec.{eqb}
+use lib.Dec.{eqb, ltb}
+use Rattle.loops.specs.Loop.{guard}
 
 abbrev pub digit : ℕ → ℕ → ℕ
 digit m k = m / 2 ^ k % 2
@@ -14,6 +15,10 @@ holds m k = eqb (digit m k) 1
 -- m with k, and without k
 unfoldable pub including : ℕ → ℕ → ℕ
 including m k = m + (1 - digit m k) * 2 ^ k
+
+-- m with k where k is below the width n, and m otherwise
+unfoldable pub joined : ℕ → ℕ → ℕ → ℕ
+joined n m k = guard (ltb k n) (λ s. including s k) m
 
 unfoldable pub excluding : ℕ → ℕ → ℕ
 excluding m k = m - digit m k * 2 ^ k

@@ -1,4 +1,4 @@
--- The members of a set walked from low to high, and a set gathered from its digits. Assumes nothing: these are definitions.
+-- The members of a set walked from low to high; a set gathered from its digits, or from sets. Assumes nothing: these are definitions.
 use Prim.Native.Nat.{ℕ, _*_, _^_}
 use lib.Bits.{bitOr}
 use Rattle.mask.specs.Member.{holds}
@@ -12,6 +12,6 @@ overMembers n m f s = over n (λ k. guard (holds m k) (f k)) s
 unfoldable pub gather : ℕ → (ℕ → ℕ) → ℕ
 gather n d = over n (λ j m. bitOr m (d j * 2 ^ j)) 0
 
--- the union of f 0, .., f (n - 1)
+-- the union of f 0 to f (n - 1): `for k in 0..n { m = m | f(k) }`
 unfoldable pub unionOf : ℕ → (ℕ → ℕ) → ℕ
 unionOf n f = over n (λ k m. bitOr m (f k)) 0

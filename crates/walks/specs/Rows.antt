@@ -12,7 +12,7 @@ use lib.ListN.{length, getD, set, replicate, length-set, length-replicate}
 use lib.Pow.{pow-pos}
 use lib.Seq.{getD-set-same, getD-set-other}
 use Rattle.mask.specs.Member.{digit, holds, including}
-use Rattle.mask.proofs.Digits.{including-same, including-other}
+use Rattle.mask.proofs.Change.{including-same, including-other}
 use Rattle.walks.specs.Marks.{Marks}
 
 -- w comes into the set at u
