@@ -7,7 +7,7 @@ use Prim.Native.Nat.{ℕ, zero, suc, _+_, _<_, _≤_}
 use native.Mathlib.Numerals.{add-one}
 use native.Mathlib.Omega.{arith}
 use Rattle.loops.specs.Loop.{over, every}
-use Rattle.loops.proofs.Tests.{and-left, and-right}
+use Rattle.loops.proofs.Tests.{both, and-left, and-right}
 
 pub over-none : {A : Type 0} (f : ℕ → A → A) (a : A) → a ≡ over 0 f a
 unfolding over
@@ -29,6 +29,10 @@ every-more p i e = rw add-one (ap (λ (b : Bool). b && p i) e)
 -- a turn that holds, and one that does not
 pub every-on : (p : ℕ → Bool) (i : ℕ) → true ≡ every i p → p i ≡ true → true ≡ every (i + 1) p
 every-on p i e h = ap (λ (b : Bool). true && b) (sym h) ∙ every-more p i e
+
+and-true : (b : Bool) → (b && true) ≡ b
+and-true true = refl
+and-true false = refl
 
 and-false : (b : Bool) → (b && false) ≡ false
 and-false true = refl
@@ -72,3 +76,15 @@ pub every-of : (n : ℕ) (p : ℕ → Bool) → ((k : ℕ) → k < n → p k ≡
 unfolding every
 every-of zero p h = refl
 every-of (suc n) p h = ap (λ (b : Bool). b && p n) (every-of n p (λ k l. h k (omega arith))) ∙ h n (le-refl (suc n))
+
+-- where `every` fails, some index fails
+pub every-not : (n : ℕ) (p : ℕ → Bool) → every n p ≡ false → (k : ℕ) × (k < n) × (p k ≡ false)
+unfolding every
+every-not zero p e = absurd (both refl e)
+every-not (suc n) p e = at (p n) refl (every-not n p)
+  where
+    at : (b : Bool) → p n ≡ b → (every n p ≡ false → (k : ℕ) × (k < n) × (p k ≡ false)) → (k : ℕ) × (k < suc n) × (p k ≡ false)
+    at false q below = (n, le-refl (suc n), q)
+    at true q below =
+        let fails = below (sym (and-true (every n p)) ∙ ap (λ (b : Bool). every n p && b) (sym q) ∙ e) in
+        (fails .0, omega (arith, fails .1), fails .2)

@@ -11,7 +11,7 @@ unfolding freeFrom
 free-stop zero held t e = refl
 free-stop (suc f) held t e = rw (freeFrom, e)
 
-free-suc : (f : ℕ) (held : List ℕ) (t : ℕ) → absentIn held t ≡ false → freeFrom (suc f) held t ≡ freeFrom f held (after t)
+pub free-suc : (f : ℕ) (held : List ℕ) (t : ℕ) → absentIn held t ≡ false → freeFrom (suc f) held t ≡ freeFrom f held (after t)
 unfolding freeFrom
 free-suc f held t e = rw (freeFrom, e)
 
