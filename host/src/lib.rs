@@ -4,5 +4,6 @@
 
 pub mod call;
 pub mod layout;
+pub mod lean;
 pub mod plain;
 pub mod records;

@@ -2,6 +2,7 @@
 //! the example of its paragraph on the program.
 
 use host::call::{Answer, Call, Coordinator, Tickets};
+use host::lean::Lean;
 use host::plain::Plain;
 use host::records;
 
@@ -130,4 +131,9 @@ fn whole_sheet<C: Coordinator>() {
 #[test]
 fn plain_keeps_the_job_sheet() {
     whole_sheet::<Plain>();
+}
+
+#[test]
+fn lean_keeps_the_job_sheet() {
+    whole_sheet::<Lean>();
 }
