@@ -3,10 +3,14 @@ use mathlib.Core.Path.{_≡_, refl, sym, ap, _∙_}
 use Prim.Native.Nat.{ℕ, zero, suc, _+_, _-_, _*_, _/_, _^_, _≤_, _<_}
 use native.Mathlib.Nat.{div-eq-sub-div, max-zero, div-mul-le-self, le-trans, lt-of-le-of-lt, le-of-eq, one-mul, mul-le-mul-right}
 use native.Mathlib.Omega.{arith}
+use native.Mathlib.Decide.{decLt}
+use borrow.Author.Tests.{lt-ltb, le-ltb}
 use lib.Pow.{pow-pos, pow-lt}
+use lib.Dec.{ltb}
 use lib.Bits.{bitAnd, bitOr, or-add-and, or-lt, and-le-l}
-use Rattle.mask.specs.Member.{digit, including, excluding, less}
-use Rattle.mask.proofs.Digits.{digit-lt, digit-or, and-pow, digit-pow-same, digit-pow-other}
+use Rattle.loops.proofs.Rules.{guard-yes, guard-no}
+use Rattle.mask.specs.Member.{digit, including, excluding, joined, less}
+use Rattle.mask.proofs.Digits.{digit-lt, digit-or, and-pow, digit-pow-same, digit-pow-other, high-zero}
 
 pub or-pow : (m k : ℕ) → bitOr m (2 ^ k) ≡ including m k
 unfolding including
@@ -68,3 +72,23 @@ excluding-lt n m k h = lt-of-le-of-lt (excluding-le m k) h
 
 pub less-lt : (n a b : ℕ) → a < 2 ^ n → less n a b < 2 ^ n
 less-lt n a b h = lt-of-le-of-lt (and-le-l a (2 ^ n - 1 - b)) h
+
+-- ---- beyond the width there is nothing to take out, and nothing is put in
+
+pub excluding-beyond : (n m k : ℕ) → m < 2 ^ n → n ≤ k → m ≡ excluding m k
+unfolding excluding
+excluding-beyond n m k h l = rw (high-zero n m k h l) (omega arith)
+
+pub joined-below : (n m k : ℕ) → k < n → joined n m k ≡ including m k
+unfolding joined
+joined-below n m k l = guard-yes (ltb k n) (λ s. including s k) m (lt-ltb k n l)
+
+pub joined-beyond : (n m k : ℕ) → n ≤ k → m ≡ joined n m k
+unfolding joined
+joined-beyond n m k l = sym (guard-no (ltb k n) (λ s. including s k) m (le-ltb k n l))
+
+pub joined-lt : (n m k : ℕ) → m < 2 ^ n → joined n m k < 2 ^ n
+joined-lt n m k h = elim (decLt k n) [
+  | yes l ↦ rw (joined-below n m k l) (including-lt n m k h l)
+  | no g ↦ rw (← (joined-beyond n m k (omega arith))) h
+]

@@ -5,15 +5,15 @@ use Prim.Native.Nat.{ℕ, zero, suc, _-_, _^_, _≤_, _<_, min, max}
 use native.Mathlib.Omega.{arith}
 use native.Mathlib.Decide.{decLt}
 use native.Mathlib.Nat.{lt-of-lt-of-le}
-use borrow.Author.Tests.{eq-eqb, ne-eqb, eqb-true, eqb-false}
+use borrow.Author.Tests.{eq-eqb, ne-eqb, eqb-true, eqb-false, ltb-true, ltb-false}
 use lib.Bits.{bitAnd, bitOr}
-use lib.Dec.{eqb}
+use lib.Dec.{eqb, ltb}
 use lib.Pow.{pow-pos}
 use Rattle.loops.specs.Sum.{tally}
 use Rattle.loops.proofs.Tests.{both}
-use Rattle.mask.specs.Member.{digit, holds, including, excluding, less}
+use Rattle.mask.specs.Member.{digit, holds, including, excluding, joined, less}
 use Rattle.mask.proofs.Digits.{digit-lt, digit-none, digit-or, digit-and, digit-not, digit-pow-same, digit-pow-other, high-zero}
-use Rattle.mask.proofs.Change.{including-same, including-other, excluding-same, excluding-other, less-lt, member-le}
+use Rattle.mask.proofs.Change.{including-same, including-other, excluding-same, excluding-other, joined-below, joined-beyond, less-lt, member-le}
 
 -- ---- members and digits
 
@@ -70,6 +70,13 @@ holds-including m k j = by (eqb j k) refl
     by : (b : Bool) → eqb j k ≡ b → holds (including m k) j ≡ b || holds m j
     by true e = rw (eqb-true j k e) (holds-of (including m k) k (including-same m k))
     by false e = rw (including-other m k j (eqb-false j k e))
+
+pub holds-joined : (n m k j : ℕ) → holds (joined n m k) j ≡ ltb k n && eqb j k || holds m j
+holds-joined n m k j = by (ltb k n) refl
+  where
+    by : (b : Bool) → ltb k n ≡ b → holds (joined n m k) j ≡ b && eqb j k || holds m j
+    by true e = ap (λ (x : ℕ). holds x j) (joined-below n m k (ltb-true k n e)) ∙ holds-including m k j
+    by false e = ap (λ (x : ℕ). holds x j) (sym (joined-beyond n m k (ltb-false k n e)))
 
 pub holds-excluding : (m k j : ℕ) → holds (excluding m k) j ≡ not (eqb j k) && holds m j
 holds-excluding m k j = by (eqb j k) refl

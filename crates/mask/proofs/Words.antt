@@ -1,15 +1,18 @@
 -- The operations as the code has them: at w digits `1 << k` is 1 * 2 ^ k % 2 ^ w, `!x` is 2 ^ w - 1 - x, and m - 1 of 0 may be anything. Assumes nothing.
 use mathlib.Core.Path.{_≡_, refl, sym, ap, _∙_}
+use mathlib.Core.Logic.{_⊎_, inl, inr}
 use Prim.Native.Nat.{ℕ, zero, suc, _+_, _-_, _*_, _/_, _%_, _^_, _<_}
-use native.Mathlib.Nat.{zero-lt-suc, pow-suc, one-mul, mod-eq-of-lt}
+use native.Mathlib.Nat.{zero-lt-suc, pow-suc, one-mul, mod-eq-of-lt, mod-self, eq-or-lt-of-le, eq-zero-or-pos}
+use native.Mathlib.Numerals.{add-one}
 use native.Mathlib.Omega.{arith}
 use lib.Arith.{lt-one}
 use lib.Pow.{pow-pos, pow-lt}
-use lib.Bits.{bitAnd, bitOr, and-mask, and-step, and-self, and-le-l}
-use Rattle.mask.specs.Member.{digit, including, excluding}
+use lib.Bits.{bitAnd, bitOr, and-mask, and-step, and-self, and-le-l, and-zero-l, and-comm}
+use Rattle.mask.specs.Member.{digit, including, excluding, joined, lowest}
 use Rattle.mask.specs.Lowest.{Lowest}
 use Rattle.mask.proofs.Digits.{digit-first, digit-suc, and-pow}
-use Rattle.mask.proofs.Change.{or-pow, sub-pow}
+use Rattle.mask.proofs.Change.{or-pow, sub-pow, joined-below}
+use Rattle.mask.proofs.Lowest.{trailing-lowest}
 
 -- a & !b, at n digits
 pub and-not : (n a b : ℕ) → a < 2 ^ n → b < 2 ^ n → bitAnd a (2 ^ n - 1 - b) ≡ a - bitAnd a b
@@ -25,6 +28,9 @@ one-shl w k l = ap (λ (x : ℕ). x % 2 ^ w) (one-mul (2 ^ k)) ∙ mod-eq-of-lt 
 
 pub or-shl : (w m k : ℕ) → k < w → bitOr m (1 * 2 ^ k % 2 ^ w) ≡ including m k
 or-shl w m k l = rw (one-shl w k l) (or-pow m k)
+
+pub joined-shl : (w m k : ℕ) → k < w → bitOr m (1 * 2 ^ k % 2 ^ w) ≡ joined w m k
+joined-shl w m k l = or-shl w m k l ∙ sym (joined-below w m k l)
 
 pub and-shl : (w m k : ℕ) → k < w → bitAnd m (1 * 2 ^ k % 2 ^ w) ≡ digit m k * 2 ^ k
 and-shl w m k l = rw (one-shl w k l) (and-pow m k)
@@ -54,3 +60,20 @@ rest-of (suc w) m p on below =
 
 pub rest-is : (n m w : ℕ) → 0 < m → Lowest n m w → bitAnd (m - 1) m ≡ excluding m w
 rest-is n m w p l = rest-of w m p (l .on) (l .below) ∙ sym (clear-is m w (l .on))
+
+-- x is m - 1 where it does not wrap around
+before-of : (p m x : ℕ) → 0 < m → x < p → (x + 1) % p ≡ m → x ≡ m - 1
+before-of p m x h g e = by (eq-or-lt-of-le g)
+  where
+    by : (suc x ≡ p) ⊎ (suc x < p) → x ≡ m - 1
+    by (inl q) = let z : (x + 1) % p ≡ 0 = ap (λ (y : ℕ). y % p) (add-one x ∙ q) ∙ mod-self p in absurd (omega arith)
+    by (inr q) = let z : (x + 1) % p ≡ x + 1 = mod-eq-of-lt (omega arith) in omega arith
+
+-- of an empty set x may be anything: it stays empty
+pub rest-wraps : (n m x : ℕ) → m < 2 ^ n → x < 2 ^ n → (x + 1) % 2 ^ n ≡ m → bitAnd m x ≡ excluding m (lowest n m)
+unfolding excluding
+rest-wraps n m x h g e = by (eq-zero-or-pos m)
+  where
+    by : (m ≡ 0) ⊎ (0 < m) → bitAnd m x ≡ excluding m (lowest n m)
+    by (inl z) = rw (z, and-zero-l x) (omega arith)
+    by (inr p) = and-comm m x ∙ ap (λ (y : ℕ). bitAnd y m) (before-of (2 ^ n) m x p g e) ∙ rest-is n m (lowest n m) p (trailing-lowest n m p h)

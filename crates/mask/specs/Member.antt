@@ -16,12 +16,12 @@ holds m k = eqb (digit m k) 1
 unfoldable pub including : ℕ → ℕ → ℕ
 including m k = m + (1 - digit m k) * 2 ^ k
 
--- m with k where k is below the width n, and m otherwise
-unfoldable pub joined : ℕ → ℕ → ℕ → ℕ
-joined n m k = guard (ltb k n) (λ s. including s k) m
-
 unfoldable pub excluding : ℕ → ℕ → ℕ
 excluding m k = m - digit m k * 2 ^ k
+
+-- m with k where k is below n: a set of n digits has no place for another
+unfoldable pub joined : ℕ → ℕ → ℕ → ℕ
+joined n m k = guard (ltb k n) (λ s. including s k) m
 
 -- the members of a below n that are not in b, and whether there are none: a lies within b
 abbrev pub less : ℕ → ℕ → ℕ → ℕ
