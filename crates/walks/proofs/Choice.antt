@@ -1,4 +1,4 @@
--- The machine's choice: the first available pair, and what such a pair is to walks.
+-- The machine's choice: the first pair that may be chosen, and what such a pair is to walks.
 -- Assumes nothing.
 use Prim.Native.Nat.{ℕ, _<_, _≤_}
 use native.Mathlib.Omega.{arith}
@@ -12,7 +12,9 @@ use borrow.Author.Tests.{eqb-false, eq-eqb, ne-eqb, not-true}
 use lib.Dec.{eqb}
 use Rattle.walks.specs.Marks.{Marks}
 use Rattle.walks.specs.Walk.{Graph, Link}
-use Rattle.walks.specs.Machine.{Standing, firstOf, given, available, choice}
+use Rattle.walks.specs.First.{firstOf, given}
+use Rattle.walks.specs.Machine.{Standing, mayBeChosen, chosen}
+use Rattle.walks.specs.Promise.{FirstChoice}
 use Rattle.walks.specs.Engine.{Made}
 use Rattle.loops.proofs.Tests.{both, and-left, and-right}
 use Rattle.walks.proofs.First.{given-some, given-none, first-none, First, first-some}
@@ -33,30 +35,23 @@ or-false false b e = (refl, e)
 module _ (G : Graph) (K : Marks (G .jobs) (G .databases)) where
   -- what may be chosen at s
   abbrev pub may : Standing K → ℕ → ℕ → Bool
-  may s = available G K (s .place .job) (s .place .via) (s .reached) (s .found)
+  may s = mayBeChosen G K (s .place .job) (s .place .via) (s .reached) (s .found)
 
-  -- the pair c may be chosen, and comes first among those that may
-  pub record Chosen (s : Standing K) (c : ℕ × ℕ) : Type 0 where
-    pub database : c .0 < G .databases
-    pub job : c .1 < G .jobs
-    pub is : may s (c .0) (c .1) ≡ true
-    pub first : (u w : ℕ) → u < G .databases → w < G .jobs → may s u w ≡ true → (c .0 < u) ⊎ ((c .0 ≡ u) × (c .1 ≤ w))
+  pub chosen-none : (s : Standing K) → chosen G K s ≡ none → (u w : ℕ) → u < G .databases → w < G .jobs → may s u w ≡ false
+  unfolding chosen
+  chosen-none s e u w hu hw = given-none (may s u w) (u, w) (first-none (G .jobs) _ (first-none (G .databases) _ e u hu) w hw)
 
-  pub choice-none : (s : Standing K) → choice G K s ≡ none → (u w : ℕ) → u < G .databases → w < G .jobs → may s u w ≡ false
-  unfolding choice
-  choice-none s e u w hu hw = given-none (may s u w) (u, w) (first-none (G .jobs) _ (first-none (G .databases) _ e u hu) w hw)
-
-  pub choice-some : (s : Standing K) (c : ℕ × ℕ) → choice G K s ≡ some c → Chosen s c
-  unfolding choice
-  choice-some s c e =
+  pub chosen-some : (s : Standing K) (c : ℕ × ℕ) → chosen G K s ≡ some c → FirstChoice G K s c
+  unfolding chosen
+  chosen-some s c e =
       let p = first-some (G .databases) _ c e in
       let q = first-some (G .jobs) _ c (p .is) in
       let g = given-some (may s (p .at) (q .at)) (p .at, q .at) c (q .is) in
-      subst (Chosen s) (g .1) (record {
+      subst (FirstChoice G K s) (g .1) (record {
         database = p .within;
         job = q .within;
-        is = g .0;
-        first = λ u w hu hw m. at-most p q u w hw m (decLt u (p .at)) (decLt (p .at) u) (decLt w (q .at));
+        may = g .0;
+        before = λ u w hu hw m. at-most p q u w hw m (decLt u (p .at)) (decLt (p .at) u) (decLt w (q .at));
       })
     where
       row : ℕ → ℕ → Option (ℕ × ℕ)
@@ -71,7 +66,7 @@ module _ (G : Graph) (K : Marks (G .jobs) (G .databases)) where
           both m (given-none {A = ℕ × ℕ} (may s u w) (u, w) (rw e (q .before w l)))
       at-most p q u w hw m (no h) (no k) (no l) = inr (omega arith, omega arith)
 
-  -- ---- an available pair is a link to go, and where none is available every choice has been made
+  -- ---- a pair that may be chosen is a link to go, and where there is none every choice has been made
 
   module _ (v t : ℕ) (R F : K .M) where
     pub record May (u w : ℕ) : Type 0 where
@@ -80,8 +75,8 @@ module _ (G : Graph) (K : Marks (G .jobs) (G .databases)) where
       pub closing : w ≡ G .new → K .has F v u ≡ false
       pub forward : ¬ (w ≡ G .new) → K .has R w u ≡ false
 
-    pub may-is : (u w : ℕ) → u < G .databases → w < G .jobs → available G K v t R F u w ≡ true → May u w
-    unfolding available
+    pub may-is : (u w : ℕ) → u < G .databases → w < G .jobs → mayBeChosen G K v t R F u w ≡ true → May u w
+    unfolding mayBeChosen
     may-is u w hu hw e =
         let x = six (G .names v u) (G .names w u) (not (eqb w v)) (not (eqb u t)) _ _ e in
         let d = or-false (G .dep u v w) (eqb w (G .new) && K .has F v u) (not-true _ (x .4)) in
@@ -99,8 +94,8 @@ module _ (G : Graph) (K : Marks (G .jobs) (G .databases)) where
           forward = λ q. not-true (K .has R w u) (rw (ne-eqb w (G .new) q) at n);
         }
 
-    pub may-made : ((u w : ℕ) → u < G .databases → w < G .jobs → available G K v t R F u w ≡ false) → Made G (K .has R) (K .has F) v t
-    unfolding available
+    pub may-made : ((u w : ℕ) → u < G .databases → w < G .jobs → mayBeChosen G K v t R F u w ≡ false) → Made G (K .has R) (K .has F) v t
+    unfolding mayBeChosen
     may-made h = record {
       enters = λ u w turn l ne. forward u w turn l ne (K .has R w u) refl;
       closes = λ u turn l. closing u turn l (K .has F v u) refl;
@@ -109,11 +104,11 @@ module _ (G : Graph) (K : Marks (G .jobs) (G .databases)) where
         forward : (u w : ℕ) → ¬ (u ≡ t) → Link G u v w → ¬ (w ≡ G .new) → (b : Bool) → K .has R w u ≡ b → b ≡ true
         forward u w turn l ne true p = refl
         forward u w turn l ne false p =
-            let a : available G K v t R F u w ≡ true = rw (l .leaves, l .enters, ne-eqb w v (l .differ), ne-eqb u t turn, l .free, ne-eqb w (G .new) ne, p) in
+            let a : mayBeChosen G K v t R F u w ≡ true = rw (l .leaves, l .enters, ne-eqb w v (l .differ), ne-eqb u t turn, l .free, ne-eqb w (G .new) ne, p) in
             both a (h u w (l .database) (l .job))
 
         closing : (u : ℕ) → ¬ (u ≡ t) → Link G u v (G .new) → (b : Bool) → K .has F v u ≡ b → b ≡ true
         closing u turn l true p = refl
         closing u turn l false p =
-            let a : available G K v t R F u (G .new) ≡ true = rw (l .leaves, l .enters, ne-eqb (G .new) v (l .differ), ne-eqb u t turn, l .free, eq-eqb (G .new) (G .new) refl, p) in
+            let a : mayBeChosen G K v t R F u (G .new) ≡ true = rw (l .leaves, l .enters, ne-eqb (G .new) v (l .differ), ne-eqb u t turn, l .free, eq-eqb (G .new) (G .new) refl, p) in
             both a (h u (G .new) (l .database) (l .job))

@@ -6,7 +6,7 @@ use native.Mathlib.Nat.{not-suc-le-zero, le-refl}
 use mathlib.Core.Bool.{Bool, true, false}
 use mathlib.Core.Option.{Option, none, some, Option·none-ne-some, Option·some-injective}
 use mathlib.Core.Path.{_≡_, refl, sym, _∙_}
-use Rattle.walks.specs.Machine.{orElse, firstOf, given}
+use Rattle.walks.specs.First.{orElse, firstOf, given}
 use Rattle.loops.proofs.Rules.{split-last}
 
 pub given-some : {A : Type 0} (t : Bool) (x y : A) → given t x ≡ some y → (t ≡ true) × (x ≡ y)

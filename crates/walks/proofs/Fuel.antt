@@ -12,7 +12,9 @@ use Rattle.walks.specs.Search.{Seek, back, markReached, forward, choose,
 use Rattle.loops.proofs.Rules.{both-steps, over-agree, guard-same, choice-same}
 use Rattle.loops.proofs.Tests.{and-left, and-right}
 use Rattle.walks.proofs.Marking.{count-le}
-use Rattle.walks.proofs.Steps.{Come, Ok, Goes, steps, marked-ok, choose-next, pass-next, visit-next}
+use Rattle.walks.proofs.Walk.{Come}
+use Rattle.walks.proofs.Next.{Ok, steps}
+use Rattle.walks.proofs.Visit.{Goes, marked-ok, choose-next, pass-next, visit-next}
 
 module _ (G : Graph) (K : Marks (G .jobs) (G .databases)) where
   module _ (f g : ℕ) (go ho : ℕ → ℕ → Seek K → Seek K) (goes : Goes G K f go)

@@ -1,69 +1,85 @@
--- The machine at closed instances: 32 jobs and 16 databases, with 3 × E moves at most.
--- 1488, which is enough for all of them, computes as fast; but a damaged machine that never ends then costs a minute.
+-- Small graphs, computed: where a definition is wrong, one of these comes out otherwise. 32 jobs and 16 databases, with 3×E moves at most.
+-- 1488 moves, enough for all of them, would compute as fast; but a damaged machine that never ends would then cost a minute.
 -- Assumes nothing.
-use Prim.Native.Nat.{ℕ, _/_, _%_, _^_}
+use Prim.Native.Nat.{ℕ}
 use mathlib.Core.Bool.{false, _&&_}
 use mathlib.Core.List.{List, [], _∷_}
 use mathlib.Core.Option.{none, some}
 use mathlib.Core.Path.{_≡_, refl}
 use lib.Dec.{eqb}
 use lib.ListN.{getD, replicate}
-use Rattle.loops.specs.Sum.{sum}
-use Rattle.loops.specs.Sum.{pairs}
-use Rattle.mask.specs.Member.{including}
+use Rattle.loops.specs.Sum.{sum, pairs}
+use Rattle.mask.specs.Member.{holds, including}
 use Rattle.walks.specs.Walk.{Graph, named}
-use Rattle.walks.specs.Machine.{choice, atNew, machine, step}
+use Rattle.walks.specs.Marks.{count}
 use Rattle.walks.specs.Plain.{plain}
 use Rattle.walks.specs.Rows.{rows}
+use Rattle.walks.specs.Machine.{chosen, atNew, machine, step}
+use Rattle.walks.specs.Search.{openingSearch}
+use Rattle.walks.specs.Opening.{opening}
 
--- the rows of the open jobs, by slot; no dependencies; the new job is n
+-- the masks of the open jobs, by slot; no dependencies; the new job is n
 abbrev graph : ℕ → List ℕ → Graph
-graph n l = record { jobs = 32; databases = 16; new = n; names = λ j u. eqb (getD l j 0 / 2 ^ u % 2) 1; dep = λ u v w. false }
+graph n masks = record { jobs = 32; databases = 16; new = n; names = λ j u. holds (getD masks j 0) u; dep = λ u v w. false }
 
-two : machine (graph 1 (3 ∷ 3 ∷ [])) (plain 32 16) 6 .moves ≡ 6
-unfolding machine including
-two = refl
+-- {0,1} and {0,1}: E is 2, and the six moves are the most there can be
+abbrev two : Graph
+two = graph 1 (3 ∷ 3 ∷ [])
 
-three : machine (graph 2 (3 ∷ 6 ∷ 5 ∷ [])) (plain 32 16) 12 .moves ≡ 10
-unfolding machine including
-three = refl
-
-three-added : pairs 32 16 (machine (graph 2 (3 ∷ 6 ∷ 5 ∷ [])) (plain 32 16) 12 .found) ≡ 2
-unfolding machine sum
-three-added = refl
-
-two′ : machine (graph 1 (3 ∷ 3 ∷ [])) (rows 32 16) 6 .moves ≡ 6
-unfolding machine including
-two′ = refl
-
-three′ : machine (graph 2 (3 ∷ 6 ∷ 5 ∷ [])) (rows 32 16) 12 .moves ≡ 10
-unfolding machine including
-three′ = refl
-
--- with E = 2 six moves are the most there can be, and the machine makes them all
-two-named : named (graph 1 (3 ∷ 3 ∷ [])) ≡ 2
+two-named : named two ≡ 2
 unfolding sum
 two-named = refl
 
-two-ends : step (graph 1 (3 ∷ 3 ∷ [])) (rows 32 16) (machine (graph 1 (3 ∷ 3 ∷ [])) (rows 32 16) 6) ≡ none
+two-moves : machine two (plain 32 16) 6 .moves ≡ 6
+unfolding machine
+two-moves = refl
+
+two-ends : step two (rows 32 16) (machine two (rows 32 16) 6) ≡ none
 unfolding machine including
 two-ends = refl
 
--- a dependency at 0 from 0 to 1 stands: one is added, with five moves
+-- {0,1}, {1,2} and {0,2}
+abbrev three : Graph
+three = graph 2 (3 ∷ 6 ∷ 5 ∷ [])
+
+three-moves : machine three (plain 32 16) 12 .moves ≡ 10
+unfolding machine
+three-moves = refl
+
+three-found : count (plain 32 16) (machine three (plain 32 16) 12 .found) ≡ 2
+unfolding machine sum
+three-found = refl
+
+-- {0,1} and {0,1} with a dependency at 0 from 0 to 1, after an ask
 abbrev asked : Graph
-asked =
-    record { jobs = 32; databases = 16; new = 1; names = graph 1 (3 ∷ 3 ∷ []) .names; dep = λ u v w. eqb u 0 && eqb v 0 && eqb w 1 }
+asked = record { jobs = 32; databases = 16; new = 1; names = two .names; dep = λ u v w. eqb u 0 && eqb v 0 && eqb w 1 }
 
-after-ask : machine asked (plain 32 16) 6 .moves ≡ 5
-unfolding machine including
-after-ask = refl
+asked-moves : machine asked (plain 32 16) 6 .moves ≡ 5
+unfolding machine
+asked-moves = refl
 
--- 32 jobs that name {0}: 62 moves, none added
-full : machine (graph 31 (replicate 32 1)) (rows 32 16) 93 .moves ≡ 62
+-- 32 jobs that name {0}
+full-moves : machine (graph 31 (replicate 32 1)) (rows 32 16) 93 .moves ≡ 62
 unfolding machine including
-full = refl
+full-moves = refl
 
--- the order of the choice: database 0 with slot 1 comes before database 1 with slot 0. (Neither the pairs nor the moves at the end depend on it.)
-database-first : choice (graph 2 (2 ∷ 1 ∷ 3 ∷ [])) (rows 32 16) (atNew (graph 2 (2 ∷ 1 ∷ 3 ∷ [])) (rows 32 16)) ≡ some (0, 1)
-unfolding machine including
+-- the nested form with the sets of an opening
+three-opening : opening three .moves ≡ 10
+unfolding openingSearch including
+three-opening = refl
+
+three-opening-found : count (rows 32 16) (opening three .found) ≡ 2
+unfolding openingSearch including sum
+three-opening-found = refl
+
+asked-opening : opening asked .moves ≡ 5
+unfolding openingSearch including
+asked-opening = refl
+
+-- {1}, {0} and {0,1}: database 0 with slot 1 is chosen before database 1 with slot 0. Neither the pairs nor the moves at the end depend on it.
+abbrev crossed : Graph
+crossed = graph 2 (2 ∷ 1 ∷ 3 ∷ [])
+
+database-first : chosen crossed (rows 32 16) (atNew crossed (rows 32 16)) ≡ some (0, 1)
+unfolding machine
 database-first = refl

@@ -1,11 +1,20 @@
+-- `Promise`: all that is promised of the opening search. `Opening`: the same of an opening's search, ready to be cited. `Instances`: small graphs, computed.
+-- Walks: `Walk`, `Named`, `Engine`. The nested form: `Marking`, `Next`, `Visit`, `Nested`, `Fuel`, `Run`. The machine: `First`, `Choice`, `Trail`, `Invariant`, `Machine`. Both: `Same`.
+pub mod Walk
+pub mod Named
+pub mod Engine
 pub mod Marking
-pub mod Steps
-pub mod Correct
+pub mod Next
+pub mod Visit
+pub mod Nested
 pub mod Fuel
 pub mod Run
-pub mod Engine
 pub mod First
 pub mod Choice
+pub mod Trail
+pub mod Invariant
 pub mod Machine
 pub mod Same
+pub mod Promise
+pub mod Opening
 pub mod Instances

@@ -11,7 +11,9 @@ use Rattle.walks.specs.Walk.{Graph}
 use Rattle.walks.specs.Search.{Seek, markReached, choose, pass, visit, run, fresh, openingSearch}
 use Rattle.loops.proofs.Rules.{both-steps, over-rule, over-agree}
 use Rattle.walks.proofs.Marking.{count-le, count-mono, count-put}
-use Rattle.walks.proofs.Steps.{Come, Good, Ok, Next, Goes, steps, choose-next, pass-next, visit-next}
+use Rattle.walks.proofs.Walk.{Come}
+use Rattle.walks.proofs.Next.{Good, Ok, Next, steps}
+use Rattle.walks.proofs.Visit.{Goes, choose-next, pass-next, visit-next}
 use Rattle.walks.proofs.Fuel.{pass-same, visit-same}
 
 module _ (G : Graph) (K : Marks (G .jobs) (G .databases)) where

@@ -12,6 +12,7 @@ pub record Made (G : Graph) (R F : ℕ → ℕ → Bool) (v t : ℕ) : Type 0 wh
   pub enters : (u w : ℕ) → ¬ (u ≡ t) → Link G u v w → ¬ (w ≡ G .new) → R w u ≡ true
   pub closes : (u : ℕ) → ¬ (u ≡ t) → Link G u v (G .new) → F v u ≡ true
 
+-- the marks are sound for walks, nothing is left to choose at N nor at a pair that is reached, and the moves tally
 pub record Engine (G : Graph) (R F : ℕ → ℕ → Bool) (m : ℕ) : Type 0 where
   pub walks : (w u : ℕ) → R w u ≡ true → Reach G w u
   pub ends : (v u : ℕ) → F v u ≡ true → WalkEnd G v u

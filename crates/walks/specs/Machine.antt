@@ -1,5 +1,5 @@
 -- The opening search as document 01 defines it: a machine that stands at a job, chooses and moves.
--- Assumes nothing.
+-- The quoted sentences are document 01's. Assumes nothing.
 use Prim.Native.Nat.{ℕ, zero, suc}
 use mathlib.Core.Bool.{Bool, true, false, not, _&&_, _||_}
 use mathlib.Core.List.{List, [], _∷_}
@@ -7,13 +7,14 @@ use mathlib.Core.Option.{Option, none, some}
 use lib.Dec.{eqb}
 use Rattle.walks.specs.Marks.{Marks}
 use Rattle.walks.specs.Walk.{Graph}
+use Rattle.walks.specs.First.{orElse, firstOf, given}
 
 -- a job, and the database through which it was reached
 pub record Place : Type 0 where
   pub job : ℕ
   pub via : ℕ
 
--- `trail`: the places to go back to, the last one first
+-- Where the machine stands and what it has marked. `trail`: the places to go back to, the last one first.
 pub record Standing {J D : ℕ} (K : Marks J D) : Type 0 where
   pub place : Place
   pub trail : List Place
@@ -21,33 +22,20 @@ pub record Standing {J D : ℕ} (K : Marks J D) : Type 0 where
   pub found : K .M
   pub moves : ℕ
 
--- the first of f 0, .., f (n - 1) that is something
-unfoldable pub orElse : {A : Type 0} → Option A → (ℕ → Option A) → ℕ → Option A
-orElse none f k = f k
-orElse (some x) f k = some x
-
-unfoldable pub firstOf : {A : Type 0} → ℕ → (ℕ → Option A) → Option A
-firstOf zero f = none
-firstOf (suc k) f = orElse (firstOf k f) f k
-
-unfoldable pub given : {A : Type 0} → Bool → A → Option A
-given true x = some x
-given false x = none
-
 module _ (G : Graph) (K : Marks (G .jobs) (G .databases)) where
-  -- Standing at v, reached through t, a pair (u, w) may be chosen when: v and w both name u; w isn't v; u isn't t;
-  -- no dependency at u from v to w exists, found ones included; and w is N, or w hasn't been reached through u yet.
-  unfoldable pub available : ℕ → ℕ → K .M → K .M → ℕ → ℕ → Bool
-  available v t reached found u w =
+  -- Standing at v, reached through t, 'a pair (u,w) may be chosen when: v and w both name u; w isn't v; u isn't the database v was reached through;
+  -- no dependency at u from v to w exists, found ones included; and w is N, or w hasn't been reached through u yet'.
+  unfoldable pub mayBeChosen : ℕ → ℕ → K .M → K .M → ℕ → ℕ → Bool
+  mayBeChosen v t reached found u w =
       G .names v u && G .names w u && not (eqb w v) && not (eqb u t) && not (G .dep u v w || eqb w (G .new) && K .has found v u)
       && (eqb w (G .new) || not (K .has reached w u))
 
-  -- the first available pair: database u ascending, then slot of w ascending
-  unfoldable pub choice : Standing K → Option (ℕ × ℕ)
-  choice s =
-      firstOf (G .databases) (λ u. firstOf (G .jobs) (λ w. given (available (s .place .job) (s .place .via) (s .reached) (s .found) u w) (u, w)))
+  -- the first pair that may be chosen: 'database u ascending, then slot of w ascending'
+  unfoldable pub chosen : Standing K → Option (ℕ × ℕ)
+  chosen s =
+      firstOf (G .databases) (λ u. firstOf (G .jobs) (λ w. given (mayBeChosen (s .place .job) (s .place .via) (s .reached) (s .found) u w) (u, w)))
 
-  -- w is N: the dependency at u from v to N is found. Stay at v.
+  -- 'If w is N: a closing move. The dependency at u from v to N is found. Stay at v.'
   unfoldable pub closingMove : ℕ → Standing K → Standing K
   closingMove u s = record {
     place = s .place;
@@ -57,7 +45,7 @@ module _ (G : Graph) (K : Marks (G .jobs) (G .databases)) where
     moves = suc (s .moves);
   }
 
-  -- otherwise: mark w reached through u, and stand at w
+  -- 'Otherwise: a forward move. Mark w reached through u, and stand at w.'
   unfoldable pub forwardMove : ℕ → ℕ → Standing K → Standing K
   forwardMove u w s = record {
     place = record { job = w; via = u };
@@ -71,7 +59,7 @@ module _ (G : Graph) (K : Marks (G .jobs) (G .databases)) where
   moveTo true u w s = closingMove u s
   moveTo false u w s = forwardMove u w s
 
-  -- nothing left to choose: go back to where v was reached from, or end at N
+  -- 'Nothing left to choose: go back to where v was reached from, a return move, or end at N.'
   unfoldable pub returnMove : Standing K → List Place → Option (Standing K)
   returnMove s [] = none
   returnMove s (p ∷ l) = some (record { place = p; trail = l; reached = s .reached; found = s .found; moves = suc (s .moves) })
@@ -80,9 +68,9 @@ module _ (G : Graph) (K : Marks (G .jobs) (G .databases)) where
   act s none = returnMove s (s .trail)
   act s (some c) = some (moveTo (eqb (c .1) (G .new)) (c .0) (c .1) s)
 
-  -- the next move; none at the end
+  -- the next move, looked for anew each time; none at the end
   unfoldable pub step : Standing K → Option (Standing K)
-  step s = act s (choice s)
+  step s = act s (chosen s)
 
   -- the next k moves, or those to the end
   unfoldable pub onward : (Standing K → Standing K) → Standing K → Option (Standing K) → Standing K
@@ -93,7 +81,7 @@ module _ (G : Graph) (K : Marks (G .jobs) (G .databases)) where
   after zero s = s
   after (suc k) s = onward (after k) s (step s)
 
-  -- at N, reached through none, with nothing marked
+  -- at N, reached through none, with nothing marked: `databases` is the number of no database
   unfoldable pub atNew : Standing K
   atNew = record {
     place = record { job = G .new; via = G .databases };
@@ -104,5 +92,5 @@ module _ (G : Graph) (K : Marks (G .jobs) (G .databases)) where
   }
 
   unfoldable pub machine : ℕ → Standing K
-  unfolding after onward step act returnMove moveTo forwardMove closingMove choice available given firstOf orElse atNew
+  unfolding after onward step act returnMove moveTo forwardMove closingMove chosen mayBeChosen given firstOf orElse atNew
   machine k = after k atNew

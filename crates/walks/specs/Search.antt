@@ -1,5 +1,5 @@
--- The opening search.
--- Assumes nothing.
+-- The opening search in the form that the code has: visiting a job loops over its databases, visiting a database loops over jobs.
+-- Here no choice is looked for anew: each loop goes on where it was. Assumes nothing.
 use Prim.Native.Nat.{ℕ, zero, suc, _*_, _-_}
 use mathlib.Core.Bool.{Bool, not, _&&_}
 use lib.Dec.{eqb}
@@ -23,11 +23,11 @@ module _ {J D : ℕ} (K : Marks J D) where
   unfoldable pub back : Seek K → Seek K
   back s = record { reached = s .reached; found = s .found; moves = suc (s .moves) }
 
-  -- the dependency at u from v to the new job is found
+  -- a closing move, unless the dependency at u from v to the new job is found already
   unfoldable pub closing : ℕ → ℕ → Seek K → Seek K
   closing v u s = guard (not (K .has (s .found) v u)) (markFound v u) s
 
-  -- w is reached through u, and visited
+  -- a forward move, the visit of w and the return, unless w has been reached through u already
   unfoldable pub forward : (ℕ → ℕ → Seek K → Seek K) → ℕ → ℕ → Seek K → Seek K
   forward go w u s = guard (not (K .has (s .reached) w u)) (λ r. back (go w u (markReached w u r))) s
 
@@ -39,7 +39,7 @@ abbrev pub opens : Graph → ℕ → ℕ → ℕ → Bool
 opens G u v w = not (eqb w v) && G .names w u && not (G .dep u v w)
 
 module _ (G : Graph) (K : Marks (G .jobs) (G .databases)) where
-  -- the choice of u and w at v
+  -- the pair (u, w) at v
   unfoldable pub choose : (ℕ → ℕ → Seek K → Seek K) → ℕ → ℕ → ℕ → Seek K → Seek K
   choose go v u w s = guard (opens G u v w) (choice (eqb w (G .new)) (closing K v u) (forward K go w u)) s
 
@@ -47,11 +47,11 @@ module _ (G : Graph) (K : Marks (G .jobs) (G .databases)) where
   unfoldable pub across : (ℕ → ℕ → Seek K → Seek K) → ℕ → ℕ → Seek K → Seek K
   across go v u s = over (G .jobs) (choose go v u) s
 
-  -- v was reached through t
+  -- database u at job v, which was reached through t
   unfoldable pub pass : (ℕ → ℕ → Seek K → Seek K) → ℕ → ℕ → ℕ → Seek K → Seek K
   pass go v t u s = guard (G .names v u && not (eqb u t)) (across go v u) s
 
-  -- visiting job v, reached through t, leads to its databases
+  -- visiting job v, reached through t, leads to its databases; the first number is fuel
   unfoldable pub visit : ℕ → ℕ → ℕ → Seek K → Seek K
   visit zero v t s = s
   visit (suc f) v t s = over (G .databases) (pass (visit f) v t) s
