@@ -2,8 +2,11 @@
 //! from its text alone, streams of records to play through them, and the place
 //! where the proved library is set against them.
 
+pub mod arguments;
 pub mod call;
 pub mod layout;
 pub mod lean;
 pub mod plain;
+pub mod random;
 pub mod records;
+pub mod streams;
