@@ -5,7 +5,7 @@ use native.Mathlib.Omega.{arith}
 use native.Mathlib.Nat.{suc-mul, not-suc-le-zero, le-refl}
 use mathlib.Core.Bool.{Bool, true, false}
 use mathlib.Core.Logic.{_⊎_, inl, inr}
-use mathlib.Core.Path.{_≡_, refl}
+use mathlib.Core.Path.{_≡_, refl, sym}
 use Rattle.loops.specs.Sum.{sum, tally, pairs}
 use Rattle.loops.proofs.Rules.{below-suc}
 use Rattle.loops.proofs.Tests.{both}
@@ -43,6 +43,17 @@ pub sum-first : (K : ℕ) (g : ℕ → ℕ) → sum (suc K) g ≡ g 0 + sum K (�
 unfolding sum
 sum-first zero g = omega arith
 sum-first (suc K) g = omega (arith, sum-first K g)
+
+sum-add : (K : ℕ) (g h : ℕ → ℕ) → sum K (λ k. g k + h k) ≡ sum K g + sum K h
+unfolding sum
+sum-add zero g h = refl
+sum-add (suc K) g h = omega (arith, sum-add K g h)
+
+-- by rows or by columns
+pub sum-turn : (J D : ℕ) (g : ℕ → ℕ → ℕ) → sum J (λ w. sum D (λ u. g w u)) ≡ sum D (λ u. sum J (λ w. g w u))
+unfolding sum
+sum-turn zero D g = sym (sum-zero D _ (λ u l. refl))
+sum-turn (suc J) D g = omega (arith, sum-turn J D g, sum-add D (λ u. sum J (λ w. g w u)) (g J))
 
 -- g and h agree but at i, where h has d more: so has its sum
 pub sum-at : (K i d : ℕ) (g h : ℕ → ℕ) → i < K → ((k : ℕ) → k < K → ¬ (k ≡ i) → h k ≡ g k) → h i ≡ g i + d → sum K h ≡ sum K g + d
