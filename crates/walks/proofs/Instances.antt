@@ -8,7 +8,7 @@ use mathlib.Core.Option.{none, some}
 use mathlib.Core.Path.{_≡_, refl}
 use lib.Dec.{eqb}
 use lib.ListN.{getD, replicate}
-use Rattle.loops.specs.Sum.{sum, pairs}
+use Rattle.loops.specs.Sum.{sum}
 use Rattle.mask.specs.Member.{holds, including}
 use Rattle.walks.specs.Walk.{Graph, named}
 use Rattle.walks.specs.Marks.{count}

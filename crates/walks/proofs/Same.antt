@@ -1,21 +1,16 @@
 -- Where sets with the same pairs are equal, the machine leaves just what the nested search leaves. Rows are such sets.
 -- Assumes nothing.
-use Prim.Native.Nat.{ℕ, zero, suc, _+_, _*_, _^_, _<_, _≤_}
-use native.Mathlib.Omega.{arith}
-use native.Mathlib.Nat.{pow-suc}
-use mathlib.Core.Path.{_≡_, refl, sym, _∙_}
-use lib.Dec.{eqb}
+use Prim.Native.Nat.{ℕ, _*_, _<_, _≤_}
+use mathlib.Core.Path.{_≡_, sym, _∙_}
 use lib.ListN.{getD}
 use lib.Seq.{ext-getD}
-use Rattle.mask.specs.Member.{digit, holds}
-use Rattle.mask.proofs.Digits.{digit-lt, digit-ext}
+use Rattle.mask.proofs.Equal.{equal-members}
 use Rattle.walks.specs.Marks.{Marks}
 use Rattle.walks.specs.Walk.{Graph, named}
 use Rattle.walks.specs.Rows.{rows}
 use Rattle.walks.specs.Machine.{machine}
 use Rattle.walks.specs.Search.{Seek, openingSearch}
 use Rattle.walks.specs.Promise.{left}
-use Rattle.loops.proofs.Tests.{both}
 use Rattle.walks.proofs.Engine.{engine}
 use Rattle.walks.proofs.Nested.{search-good, search-engine}
 use Rattle.walks.proofs.Machine.{machine-engine, machine-good}
@@ -24,26 +19,8 @@ use Rattle.walks.proofs.Machine.{machine-engine, machine-good}
 abbrev pub Extensional : {J D : ℕ} → Marks J D → Type 0
 Extensional K = (m n : K .M) → K .Good m → K .Good n → ((w u : ℕ) → K .has m w u ≡ K .has n w u) → m ≡ n
 
-below-pow : (n : ℕ) → n < 2 ^ n
-below-pow zero = omega arith
-below-pow (suc n) = omega (arith, pow-suc 2 n, below-pow n)
-
-same-digit : (a b : ℕ) → a < 2 → b < 2 → eqb a 1 ≡ eqb b 1 → a ≡ b
-same-digit zero zero h k e = refl
-same-digit zero (suc zero) h k e = both e refl
-same-digit zero (suc (suc b)) h k e = absurd (omega arith)
-same-digit (suc zero) zero h k e = both (sym e) refl
-same-digit (suc zero) (suc zero) h k e = refl
-same-digit (suc zero) (suc (suc b)) h k e = absurd (omega arith)
-same-digit (suc (suc a)) b h k e = absurd (omega arith)
-
-same-members : (a b : ℕ) → ((k : ℕ) → holds a k ≡ holds b k) → a ≡ b
-same-members a b e =
-    digit-ext (a + b) a b (omega (arith, below-pow (a + b))) (omega (arith, below-pow (a + b)))
-    (λ k l. same-digit (digit a k) (digit b k) (digit-lt a k) (digit-lt b k) (e k))
-
 rows-extensional : (J D : ℕ) → Extensional (rows J D)
-rows-extensional J D m n g h e = ext-getD 0 m n (g ∙ sym h) (λ u l. same-members (getD m u 0) (getD n u 0) (λ w. e w u))
+rows-extensional J D m n g h e = ext-getD 0 m n (g ∙ sym h) (λ u l. equal-members (getD m u 0) (getD n u 0) (λ w. e w u))
 
 same-seek : {J D : ℕ} (K : Marks J D) (s r : Seek K) → s .reached ≡ r .reached → s .found ≡ r .found → s .moves ≡ r .moves → s ≡ r
 same-seek K s r a b c = λ i. record { reached = a i; found = b i; moves = c i }

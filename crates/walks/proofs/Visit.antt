@@ -1,13 +1,13 @@
 -- What the moves of the nested search and its two functions leave behind.
 -- Assumes nothing.
-use Prim.Native.Nat.{ℕ, zero, suc, _+_, _*_, _<_}
+use Prim.Native.Nat.{ℕ, zero, suc, _<_}
 use native.Mathlib.Omega.{arith}
 use mathlib.Core.Bool.{true, false, not, _&&_}
 use mathlib.Core.Logic.{_⊎_, inl, inr}
 use mathlib.Core.Path.{_≡_}
 use borrow.Author.Tests.{eqb-true, eqb-false, ne-eqb, not-true, not-false}
 use lib.Dec.{eqb}
-use Rattle.walks.specs.Marks.{Marks, count}
+use Rattle.walks.specs.Marks.{Marks}
 use Rattle.walks.specs.Walk.{Graph, Link, Reach, WalkEnd}
 use Rattle.walks.specs.Search.{Seek, markReached, markFound, back, closing, forward, opens, choose, across, pass, visit}
 use Rattle.loops.proofs.Rules.{over-rule, guard-rule, choice-rule}
