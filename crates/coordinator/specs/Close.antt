@@ -1,0 +1,48 @@
+-- Closing a job, and the held closes that may go then. Assumes nothing: these are definitions.
+use Prim.Native.Nat.{ℕ, zero, suc}
+use mathlib.Core.Bool.{Bool, true, false}
+use mathlib.Core.List.{List}
+use mathlib.Core.Option.{Option, none, some}
+use lib.Dec.{eqb}
+use lib.ListN.{set, replicate}
+use Rattle.coordinator.specs.declared.Coordinator.{Coordinator}
+use Rattle.coordinator.specs.declared.answers.CloseAnswer.{CloseAnswer}
+use Rattle.coordinator.specs.declared.answers.AfterClose.{AfterClose}
+use Rattle.coordinator.specs.Limits.{jobs}
+use Rattle.coordinator.specs.Views.{ticket}
+use Rattle.coordinator.specs.Holder.{holder}
+use Rattle.coordinator.specs.Refusal.{closeRefusal}
+use Rattle.coordinator.specs.Change.{markHeld, removed}
+use Rattle.coordinator.specs.Release.{mayClose, mayCloseNow, firstOf}
+
+-- how many jobs are closed so far, their tickets in order, and the state left
+pub record Closing : Type 0 where
+  pub count : ℕ
+  pub tickets : List ℕ
+  pub state : Coordinator
+
+abbrev pub noTickets : List ℕ
+noTickets = replicate jobs 0
+
+-- one more job, in slot j, is closed
+unfoldable pub closeOne : Closing → ℕ → Closing
+closeOne c j = record { count = suc (c .count); tickets = set (c .tickets) (c .count) (ticket (c .state) j); state = removed (c .state) j }
+
+-- as long as some held close may go, close the first; at most so many
+unfoldable pub closeHeld : ℕ → Closing → Closing
+closeHeld zero c = c
+closeHeld (suc left) c = elim (eqb (mayCloseNow (c .state)) 0) [ true ↦ c | false ↦ closeHeld left (closeOne c (firstOf (c .state) (mayCloseNow (c .state)))) ]
+
+-- the job in slot j closes, and then the held closes that may go
+unfoldable pub closing : Coordinator → ℕ → Closing
+closing s j = closeHeld jobs (closeOne (record { count = 0; tickets = noTickets; state = s }) j)
+
+unfoldable pub closedAt : Coordinator → ℕ → AfterClose
+closedAt s j =
+    elim (mayClose s j) [
+      | true ↦ let c : Closing = closing s j in record { answer = CloseAnswer.Closed (c .count); tickets = c .tickets; state = c .state }
+      | false ↦ record { answer = CloseAnswer.Held; tickets = noTickets; state = markHeld s j }
+    ]
+
+unfoldable pub afterClose : Coordinator → ℕ → AfterClose
+afterClose s t = elim (closeRefusal s t) [ none ↦ closedAt s (holder s t) | some n ↦ record { answer = CloseAnswer.Refused n; tickets = noTickets; state = s } ]

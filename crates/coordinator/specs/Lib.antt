@@ -1,0 +1,19 @@
+-- The state: `Limits`, `Fresh`, `Views`, `Shape`. Which states are sound: `Sound`, and its test, `Test`. The refusals: `Holder`, `Refusal`.
+-- The calls: `Change`, `Release`, `Open`, `Ask`, `Confirm`, `Close`; what they answer in document 01's numbers: `Answer`, `Call`. The job sheet: `Sheet`.
+pub mod Limits
+pub mod Fresh
+pub mod Views
+pub mod Shape
+pub mod Sound
+pub mod Holder
+pub mod Test
+pub mod Refusal
+pub mod Change
+pub mod Release
+pub mod Open
+pub mod Ask
+pub mod Confirm
+pub mod Close
+pub mod Answer
+pub mod Call
+pub mod Sheet

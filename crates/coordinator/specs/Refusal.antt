@@ -1,0 +1,62 @@
+-- The refusal of each call: document 01's table, row by row. Assumes nothing: these are definitions.
+use Prim.Native.Nat.{ℕ}
+use mathlib.Core.Bool.{Bool, true, false, not, _&&_, _||_}
+use mathlib.Core.List.{List, [], _∷_}
+use mathlib.Core.Option.{Option, none, some}
+use lib.Dec.{eqb, ltb}
+use Rattle.loops.specs.Loop.{every}
+use Rattle.coordinator.specs.declared.Coordinator.{Coordinator}
+use Rattle.coordinator.specs.Limits.{jobs, databases}
+use Rattle.coordinator.specs.Views.{inMask, names, asked, released, confirmed, openCount, held}
+use Rattle.coordinator.specs.Holder.{holders, holder}
+use Rattle.coordinator.specs.Test.{sound}
+
+-- when a row applies, and its number
+pub record Row : Type 0 where
+  pub applies : Bool
+  pub number : ℕ
+
+-- the number of the first row that applies, or none
+unfoldable pub firstRow : List Row → Option ℕ
+firstRow [] = none
+firstRow (r ∷ rows) = elim (r .applies) [ true ↦ some (r .number) | false ↦ firstRow rows ]
+
+unfoldable pub allConfirmed : Coordinator → ℕ → Bool
+allConfirmed s j = every databases (λ k. not (names s j k) || confirmed s j k)
+
+unfoldable pub openRefusal : Coordinator → ℕ → Option ℕ
+openRefusal s mask =
+    firstRow
+    (record { applies = not (sound s); number = 10 }
+    ∷ record { applies = eqb mask 0; number = 1 }
+    ∷ record { applies = eqb (openCount s) jobs; number = 2 }
+    ∷ [])
+
+unfoldable pub askRefusal : Coordinator → ℕ → ℕ → Option ℕ
+askRefusal s t k =
+    firstRow
+    (record { applies = not (sound s); number = 10 }
+    ∷ record { applies = eqb (holders s t) 0; number = 3 }
+    ∷ record { applies = not (ltb k databases); number = 4 }
+    ∷ record { applies = not (inMask s (holder s t) k); number = 5 }
+    ∷ record { applies = asked s (holder s t) k; number = 6 }
+    ∷ [])
+
+unfoldable pub confirmRefusal : Coordinator → ℕ → ℕ → Option ℕ
+confirmRefusal s t k =
+    firstRow
+    (record { applies = not (sound s); number = 10 }
+    ∷ record { applies = eqb (holders s t) 0; number = 3 }
+    ∷ record { applies = not (ltb k databases); number = 4 }
+    ∷ record { applies = not (inMask s (holder s t) k); number = 5 }
+    ∷ record { applies = not (released s (holder s t) k) || confirmed s (holder s t) k; number = 7 }
+    ∷ [])
+
+unfoldable pub closeRefusal : Coordinator → ℕ → Option ℕ
+closeRefusal s t =
+    firstRow
+    (record { applies = not (sound s); number = 10 }
+    ∷ record { applies = eqb (holders s t) 0; number = 3 }
+    ∷ record { applies = not (allConfirmed s (holder s t)); number = 8 }
+    ∷ record { applies = held s (holder s t); number = 9 }
+    ∷ [])

@@ -1,0 +1,38 @@
+-- The laws of tables, and of the loop that fills one. Assumes nothing.
+use Prim.Native.Nat.{ℕ, zero, suc, _+_, _≤_, _<_}
+use mathlib.Core.Path.{_≡_, refl, sym, ap, _∙_}
+use mathlib.Core.List.{List, [], _∷_, _++_}
+use mathlib.Core.Logic.{⊎-elim}
+use native.Mathlib.Omega.{arith}
+use native.Mathlib.Nat.{le-antisymm, eq-or-lt-of-le, le-of-suc-le-suc}
+use native.Mathlib.Numerals.{add-one}
+use lib.ListN.{length, take, set, getD, length-append}
+use lib.Seq.{take-suc, take-all, take-suc-set}
+use Rattle.loops.specs.Table.{table}
+
+pub length-table : {A : Type 0} (n : ℕ) (f : ℕ → A) → length (table n f) ≡ n
+unfolding table
+length-table zero f = refl
+length-table (suc n) f = simp length-append (omega (arith, length-table n f))
+
+pub table-same : {A : Type 0} (n : ℕ) (f g : ℕ → A) → ((i : ℕ) → i < n → f i ≡ g i) → table n f ≡ table n g
+unfolding table
+table-same zero f g e = refl
+table-same (suc n) f g e = rw (table-same n f g (λ i l. e i (omega arith)), e n (omega arith))
+
+-- a list is the table of its elements
+pub table-take : {A : Type 0} (l : List A) (d : A) (n : ℕ) → n ≤ length l → table n (λ i. getD l i d) ≡ take n l
+unfolding table
+table-take l d zero h = refl
+table-take l d (suc n) h = rw (table-take l d n (omega arith)) (sym (take-suc l n d h))
+
+pub table-of : {A : Type 0} (l : List A) (d : A) (n : ℕ) → length l ≡ n → table n (λ i. getD l i d) ≡ l
+table-of l d n e = table-take l d n (omega arith) ∙ take-all n l (omega arith)
+
+-- a turn of the loop that fills one, and its end
+pub table-turn : {A : Type 0} (a : List A) (f : ℕ → A) (i n : ℕ) (x : A) → x ≡ f i → length a ≡ n → i < n → take i a ≡ table i f → take (i + 1) (set a i x) ≡ table (i + 1) f
+unfolding table
+table-turn a f i n x q l h e = rw (add-one, q) (take-suc-set a i (f i) (omega arith) ∙ rw e)
+
+pub table-done : {A : Type 0} (a : List A) (f : ℕ → A) (i n : ℕ) → length a ≡ n → i ≤ n → n ≤ i → take i a ≡ table i f → a ≡ table n f
+table-done a f i n l h h₂ e = sym (take-all i a (omega arith)) ∙ e ∙ ap (λ (k : ℕ). table k f) (le-antisymm h h₂)
