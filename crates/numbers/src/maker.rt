@@ -2,7 +2,6 @@
 use crate::NumberMaker;
 use crate::Ticket;
 ghost use mathlib.Core.Path.{_≡_};
-ghost use lib.ListN.{length};
 ghost use Rattle.numbers.specs.Ticket.{absentIn, after, ticketFrom};
 
 pub fn absent(held: &[u16], t: u16) -> bool
@@ -41,7 +40,8 @@ pub fn take(m: &mut NumberMaker, held: &[u16]) -> Ticket
     ensures { λ r. ⌜ (r .0 ≡ ticketFrom (now (held .entry)) (now (m .entry) .next)) × (now (m .exit) .next ≡ after (r .0)) ⌝ }
 {
     let t = free_from(m.next, held);
-    m.next = after(t);
+    let next = after(t);
+    m.next = next;
     Ticket(t)
 }
 
@@ -52,9 +52,14 @@ pub struct Handed {
 }
 
 // The number maker by value: whoever calls this lends nothing.
-pub fn hand_out(mut maker: NumberMaker, held: &[u16]) -> Handed
+pub fn hand_out(maker: NumberMaker, held: &[u16]) -> Handed
     ensures { λ r. ⌜ (r .ticket .0 ≡ ticketFrom (now (held .entry)) (maker .next)) × (r .maker .next ≡ after (r .ticket .0)) ⌝ }
 {
-    let ticket = take(&mut maker, held);
-    Handed { ticket, maker }
+    let mut m = maker;
+    let ticket = take(&mut m, held);
+    let left = m;
+    Handed {
+        ticket,
+        maker: left,
+    }
 }

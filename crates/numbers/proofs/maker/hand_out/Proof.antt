@@ -157,7 +157,7 @@ module _ {M : Type 1} (𝓤 : URA M) (H : Heap 𝓤) (A : Atoms 𝓤) (W : Given
         qed W ((‵ (flft κ q) ⊛ ‵ ftrue) ∷ ‵ (owns (T.the-row ∷ ShrSlice (named 0) κ u16 ∷ []) x at) ∷ []) ∵ enter ! C Λ code.function (mach n ∷ s ∷ []) _ $
         alloc1 ! (λ l₀. alloc1 ! (λ l₁. alloc1 ! (λ l₂. alloc1 ! (λ l₃. alloc1 ! (λ l₄. alloc1 ! (λ l₅. alloc1 ! (λ l₆. alloc0 ! $ params1 ! $ pass1 ! (init ! 10 refl (tt, (record { fits = n-fits }, tt))) $ pass1 ! (init ! 8 refl (shr-slice-lawful 𝓤 H A W (named 0) κ u16 .typed hs (s ∷ []) p .0)) $ pass0 ! $
         assigns ! (of-opd ! (load ! (from ! (stop !)) (look ! 10 refl))) (from ! (stop !)) (init ! 6 refl (tt, (record { fits = n-fits }, tt))) $
-        assigns ! (addr ! (from ! (stop !))) (from ! (stop !)) (init ! 2 refl (tt, tt)) $
+        assigns ! (addr ! (from ! (stop !))) (from ! (stop !)) (init ! 0 refl (tt, tt)) $
         -- the local is lent for a new lifetime
         move ! (6 ∷ []) $ use1 W (‵ (partAt T.the-row fullShare (maker n) l₃ 0)) (part-in 𝓤 H A W n l₃ n-fits) $
         lft-new ! tt (λ α. move ! (1 ∷ []) $
@@ -166,7 +166,7 @@ module _ {M : Type 1} (𝓤 : URA M) (H : Heap 𝓤) (A : Atoms 𝓤) (W : Given
         move ! (17 ∷ []) $ fsplit ! $ drop ! $ fsplit ! $ use1 W (‵ Own ⊛ ‵ Own) (shr-slice-copy 𝓤 H A W (named 0) κ u16 .twice hs (s ∷ [])) $ split ! $
         move ! (5 ∷ 3 ∷ []) $ join ! $ move ! (0 ∷ 18 ∷ 1 ∷ []) $ use3 W (raw (Take 𝓤 H A at-mem run .pre (to-take α l₃ δ))) (goes-take α l₃ δ) $
         -- [what take asks; held; …; the lender's part; _6; …; _5; …; _4; …; of _3; _2; …; _1; …; room for _0; …]
-        calls-at ! fm (Take 𝓤 H A at-mem run) known (to-take α l₃ δ) (and-then ! (load ! (from ! (stop !)) (look ! 6 refl)) (and-then ! (load ! (from ! (stop !)) (look ! 11 refl)) (no-more !))) (λ u.
+        calls-at ! fm (Take 𝓤 H A at-mem run) known (to-take α l₃ δ) (and-then ! (load ! (from ! (stop !)) (look ! 4 refl)) (and-then ! (load ! (from ! (stop !)) (look ! 11 refl)) (no-more !))) (λ u.
         use1 W (later (some (λ (r : Ticket). ((‵ (flft (α ∷ []) fullShare) ⊛ ‵ (flft κ q) ⊛ ‵ ftrue) ⊛ ‵ (K.the-row .own r (u ∷ []))) ⊛ raw (ensured 𝓤 H A take.ended (take.clauses 𝓤 H A at-mem run) (α ∷ [], (κ, tt)) (lent l₃ δ, (hs, tt)) tt r)))) (id⊢ 𝓤 _) $ await ! tt $ pick ! (λ r.
         split ! $ move ! (1 ∷ []) $ use1 W (some (λ (ws : NumberMaker × (Unit {0} × Unit {0})). ‵ (lasts take.ended (α ∷ [], (κ, tt)) (lent l₃ δ, (hs, tt)) ws) ⊛ raw (fact 𝓤 (Said r (ws .0))))) (id⊢ 𝓤 _) $ pick ! (λ ws.
         split ! $ move ! (1 ∷ []) $ heard ! (Said r (ws .0)) (λ e. fsplit ! $ move ! (2 ∷ []) $ split ! $ move ! (1 ∷ []) $
@@ -176,9 +176,9 @@ module _ {M : Type 1} (𝓤 : URA M) (H : Heap 𝓤) (A : Atoms 𝓤) (W : Given
         -- the lifetime is ended, and the local is taken back at its last value
         move ! (1 ∷ []) $ split ! $ lft-end ! tt $ move ! (0 ∷ 7 ∷ 3 ∷ []) $ use3 W (later (‵ (partAt T.the-row fullShare (ws .0) l₃ 0))) (ref-back 𝓤 H A W T.the-row (α ∷ []) δ (ws .0) l₃ 0) $ await ! tt $
         use1 W (‵ (fat fullShare T′.mir l₃ 0 (mach (ws .0 .next)))) (part-out 𝓤 H A W (ws .0 .next) l₃) $
-        -- [_3; held's token; the result; …; held; …; room for _6; …; _5; …; _4; …; of _3; _2; …; _1; …; room for _0; …]
-        assigns ! (of-opd ! (load ! (from ! (stop !)) (look ! 0 refl))) (from ! (stop !)) (init ! 6 refl (tt, (record { fits = after-fits (r .0) (ws .0 .next) (e .1) }, tt))) $
-        assigns ! (agg ! (and-then ! (load ! (from ! (stop !)) (look ! 10 refl)) (and-then ! (load ! (from ! (stop !)) (look ! 6 refl)) (no-more !)))) (from ! (stop !)) (init ! 17 refl (tt, ((record { fits = LL.owed K.the-type K′.the-laws r _ is .0 .1 }, tt), ((record { fits = after-fits (r .0) (ws .0 .next) (e .1) }, tt), tt)))) $
+        -- [_3; held's token; the result; …; held; …; _6; …; room for _5; …; _4; …; of _3; _2; …; _1; …; room for _0; …]
+        assigns ! (of-opd ! (load ! (from ! (stop !)) (look ! 0 refl))) (from ! (stop !)) (init ! 8 refl (tt, (record { fits = after-fits (r .0) (ws .0 .next) (e .1) }, tt))) $
+        assigns ! (agg ! (and-then ! (load ! (from ! (stop !)) (look ! 10 refl)) (and-then ! (load ! (from ! (stop !)) (look ! 8 refl)) (no-more !)))) (from ! (stop !)) (init ! 17 refl (tt, ((record { fits = LL.owed K.the-type K′.the-laws r _ is .0 .1 }, tt), ((record { fits = after-fits (r .0) (ws .0 .next) (e .1) }, tt), tt)))) $
         returns ! (look ! 17 refl) $ forget ! 0 refl $ forget ! 6 refl $ forget ! 8 refl $ forget ! 10 refl $ forget ! 13 refl $ forget ! 15 refl $ forget ! 17 refl $
         move ! (17 ∷ 18 ∷ []) $ free1 ! $ move ! (15 ∷ 16 ∷ []) $ free1 ! $ move ! (13 ∷ 14 ∷ []) $ free1 ! $ move ! (0 ∷ 12 ∷ []) $ free1 ! $ move ! (9 ∷ 10 ∷ []) $ free1 ! $ move ! (7 ∷ 8 ∷ []) $ free1 ! $ move ! (5 ∷ 6 ∷ []) $ free1 ! $ free0 ! $
         keep ! (0 ∷ 3 ∷ []) $ by ! (exits (r .0) (ws .0 .next) e (LL.owed K.the-type K′.the-laws r _ is .0 .1) (after-fits (r .0) (ws .0 .next) (e .1)))))))))))))))))

@@ -19,7 +19,7 @@ use contract.Lifetimes.{AllOutlive}
 use contract.Monad.{Fun, fact}
 use contract.Running.{givenOf, tables, tablesOf}
 use types.Kit.{Given, ‵, raw, some, later, _⊛_, ⋆, _$_, _∵_, !, qed, by, move, drop, use1, use2, split, join, pick, rewrite, fsplit, fsplit3, fjoin, fjoin3, feqI, suffices, frame, await, done}
-use types.Run.{look, init, store, forget, stop, hop, fld, from, load, of-opd, and-then, no-more, assigns, land, returns, enter, alloc1, alloc0, params1, pass1, pass0, free1, free0}
+use types.Run.{look, init, forget, stop, hop, fld, from, load, of-opd, and-then, no-more, assigns, land, returns, enter, alloc1, alloc0, params1, pass1, pass0, free1, free0}
 use types.Part.{agg, whole, sub, look-in, store-in}
 use types.SemTy.{Body}
 use sound.WpLaws.{FmC, fmOf, WpFn-mono}
@@ -148,36 +148,36 @@ module _ {M : Type 1} (𝓤 : URA M) (H : Heap 𝓤) (A : Atoms 𝓤) (W : Given
     walk : Is (ShrSlice (named 1) κ′ u16) hs (s ∷ []) → ent 𝓤 (onEntry 𝓤 H A take.signature (κ, (κ′, tt)) (q, (q′, tt)) x at) (WpFn 𝓤 H C Λ code.function (vptr b o ∷ s ∷ []) Post)
     walk p =
         qed W ((‵ (flft κ q) ⊛ ‵ (flft κ′ q′) ⊛ ‵ ftrue) ∷ ‵ (owns (MutRef (named 0) κ (T.the-row) ∷ ShrSlice (named 1) κ′ u16 ∷ []) x at) ∷ []) ∵ enter ! C Λ code.function (vptr b o ∷ s ∷ []) _ $
-        alloc1 ! (λ l₀. alloc1 ! (λ l₁. alloc1 ! (λ l₂. alloc1 ! (λ l₃. alloc1 ! (λ l₄. alloc0 ! $ params1 ! $ pass1 ! (init ! 6 refl (tt, tt)) $ pass1 ! (init ! 4 refl (shr-slice-lawful 𝓤 H A W (named 1) κ′ u16 .typed hs (s ∷ []) p .0)) $ pass0 ! $
+        alloc1 ! (λ l₀. alloc1 ! (λ l₁. alloc1 ! (λ l₂. alloc1 ! (λ l₃. alloc1 ! (λ l₄. alloc1 ! (λ l₅. alloc0 ! $ params1 ! $ pass1 ! (init ! 8 refl (tt, tt)) $ pass1 ! (init ! 6 refl (shr-slice-lawful 𝓤 H A W (named 1) κ′ u16 .typed hs (s ∷ []) p .0)) $ pass0 ! $
         -- the borrow is opened
-        move ! (11 ∷ []) $ fsplit ! $ fsplit3 ! $ drop ! $ move ! (13 ∷ []) $ split ! $ move ! (2 ∷ 3 ∷ 0 ∷ []) $
+        move ! (13 ∷ []) $ fsplit ! $ fsplit3 ! $ drop ! $ move ! (15 ∷ []) $ split ! $ move ! (2 ∷ 3 ∷ 0 ∷ []) $
         opens ! tt (T.the-row) {h = h} b o (λ vs. spelt ! (T.the-row) (Is (T.the-row)) (shows 𝓤 H A (T.the-row)) (LL.vals T.the-type T′.the-laws) (LL.tells T.the-type T′.the-laws) fullShare h vs b o $
         move ! (1 ∷ []) $ peeks ! (T.the-row) (Is (T.the-row)) (shows 𝓤 H A (T.the-row)) h (mach (h .next) ∷ []) (λ was. move ! (1 ∷ 0 ∷ []) $
-        -- [the struct's cell; what it owns; the open borrow; obs; auth; held's token; what held owns; _4; …; _3; …; _2; …; _1; …; room for _0; …]
-        assigns ! (of-opd ! (load ! (from ! (hop ! (look ! 13 refl) (fld ! refl (stop !)))) (look-in ! 0 (sub ! 0 refl (whole !))))) (from ! (stop !)) (init ! 7 refl (tt, record { fits = was .1 .1 .0 .1 })) $
+        -- [the struct's cell; what it owns; the open borrow; obs; auth; held's token; what held owns; _5; …; _4; …; _3; …; _2; …; _1; …; room for _0; …]
+        assigns ! (of-opd ! (load ! (from ! (hop ! (look ! 15 refl) (fld ! refl (stop !)))) (look-in ! 0 (sub ! 0 refl (whole !))))) (from ! (stop !)) (init ! 7 refl (tt, record { fits = was .1 .1 .0 .1 })) $
         move ! (5 ∷ 6 ∷ []) $ use2 W (raw (FreeFrom 𝓤 H A at-mem run .pre to-free) ⊛ ‵ Own) (goes-free (was .1 .1 .0 .1)) $ split ! $
-        -- [what free_from asks; held; the cell; what it owns; the open borrow; obs; auth; _4; …; _3; …; _2; …; _1; …; room for _0; …]
-        calls-at ! fm (FreeFrom 𝓤 H A at-mem run) known-free to-free (and-then ! (load ! (from ! (stop !)) (look ! 7 refl)) (and-then ! (load ! (from ! (stop !)) (look ! 11 refl)) (no-more !))) (λ u.
+        -- [what free_from asks; held; the cell; what it owns; the open borrow; obs; auth; _5; …; _4; …; _3; …; _2; …; _1; …; room for _0; …]
+        calls-at ! fm (FreeFrom 𝓤 H A at-mem run) known-free to-free (and-then ! (load ! (from ! (stop !)) (look ! 7 refl)) (and-then ! (load ! (from ! (stop !)) (look ! 13 refl)) (no-more !))) (λ u.
         use1 W (later (some (λ (r : ℕ). ((‵ (flft κ′ q′) ⊛ ‵ ftrue) ⊛ ‵ (u16 .own r (u ∷ []))) ⊛ raw (ensured 𝓤 H A free.ended (free.clauses 𝓤 H A at-mem run) (κ′, tt) (h .next, (hs, tt)) tt r)))) (id⊢ 𝓤 _) $ await ! tt $ pick ! (λ r.
         split ! $ move ! (1 ∷ []) $ use1 W (raw (fact 𝓤 (r ≡ found))) (free-said r) $ heard ! (r ≡ found) (λ e. split ! $ move ! (1 ∷ []) $
-        -- [the result; held's token; held; the cell; what it owns; the open borrow; obs; auth; _4; …; room for _3; …; _2; …; _1; …; room for _0; …]
+        -- [the result; held's token; held; the cell; what it owns; the open borrow; obs; auth; _5; …; room for _4; …; room for _3; …; _2; …; _1; …; room for _0; …]
         peeks ! u16 (Is u16) (shows 𝓤 H A u16) r (u ∷ []) (λ is.
-        land ! (from ! (stop !)) (init ! 10 refl (uint-lawful 𝓤 H A W w16 .typed r _ is .0)) $ rewrite ! 10 (λ (w : Val). ‵ (fat fullShare (tyInt w16) l₃ 0 w)) (ap only (is .0)) refl $ drop ! $
+        land ! (from ! (stop !)) (init ! 12 refl (uint-lawful 𝓤 H A W w16 .typed r _ is .0)) $ rewrite ! 12 (λ (w : Val). ‵ (fat fullShare (tyInt w16) l₃ 0 w)) (ap only (is .0)) refl $ drop ! $
         nothing ! $ owned ! u16 (Is u16) (uint-makes 𝓤 H A W w16) r _ (refl, is .1) $ fjoin ! $ nothing ! $ use2 W (raw (After 𝓤 H A at-mem run .pre (to-after r))) (goes-after r) $
-        calls-at ! fm (After 𝓤 H A at-mem run) known-after (to-after r) (and-then ! (load ! (from ! (stop !)) (look ! 10 refl)) (no-more !)) (λ u′.
+        calls-at ! fm (After 𝓤 H A at-mem run) known-after (to-after r) (and-then ! (load ! (from ! (stop !)) (look ! 12 refl)) (no-more !)) (λ u′.
         use1 W (later (some (λ (r′ : ℕ). (‵ ftrue ⊛ ‵ (u16 .own r′ (u′ ∷ []))) ⊛ raw (ensured 𝓤 H A next.ended (next.clauses 𝓤 H A at-mem run) tt (r, tt) tt r′)))) (id⊢ 𝓤 _) $ await ! tt $ pick ! (λ r′.
         split ! $ move ! (1 ∷ []) $ use1 W (raw (fact 𝓤 (r′ ≡ after r))) (after-said r r′) $ heard ! (r′ ≡ after r) (λ e′. split ! $ drop ! $
         peeks ! u16 (Is u16) (shows 𝓤 H A u16) r′ (u′ ∷ []) (λ is′.
-        land ! (from ! (stop !)) (store ! 8 refl (uint-lawful 𝓤 H A W w16 .typed r′ _ is′ .0)) $ rewrite ! 8 (λ (w : Val). ‵ (fat fullShare (tyInt w16) l₄ 0 w)) (ap only (is′ .0)) refl $ drop ! $
-        -- [held's token; held; the cell; what it owns; the open borrow; obs; auth; _4; …; _3; …; _2; …; _1; …; room for _0; …]
-        assigns ! (of-opd ! (load ! (from ! (stop !)) (look ! 7 refl))) (from ! (hop ! (look ! 13 refl) (fld ! refl (stop !)))) (store-in ! 2 (sub ! 0 refl (whole !)) (tt, record { fits = is′ .1 })) $
-        assigns ! (agg ! (and-then ! (load ! (from ! (stop !)) (look ! 9 refl)) (no-more !))) (from ! (stop !)) (init ! 15 refl (tt, (record { fits = is .1 }, tt))) $
+        land ! (from ! (stop !)) (init ! 10 refl (uint-lawful 𝓤 H A W w16 .typed r′ _ is′ .0)) $ rewrite ! 10 (λ (w : Val). ‵ (fat fullShare (tyInt w16) l₄ 0 w)) (ap only (is′ .0)) refl $ drop ! $
+        -- [held's token; held; the cell; what it owns; the open borrow; obs; auth; _5; …; _4; …; _3; …; _2; …; _1; …; room for _0; …]
+        assigns ! (of-opd ! (load ! (from ! (stop !)) (look ! 9 refl))) (from ! (hop ! (look ! 15 refl) (fld ! refl (stop !)))) (store-in ! 2 (sub ! 0 refl (whole !)) (tt, record { fits = is′ .1 })) $
+        assigns ! (agg ! (and-then ! (load ! (from ! (stop !)) (look ! 11 refl)) (no-more !))) (from ! (stop !)) (init ! 17 refl (tt, (record { fits = is .1 }, tt))) $
         -- the borrow is closed at the new record
         move ! (3 ∷ []) $ drop ! $ owned ! (T.the-row) (Is (T.the-row)) ((LL.makes T.the-type T′.the-plain) 𝓤 H A) (maker r′) _ (made r′ (is′ .1)) $ move ! (3 ∷ 0 ∷ 4 ∷ 5 ∷ 6 ∷ []) $ closes ! tt (T.the-row) (maker r′) (mach r′ ∷ []) b o $
-        -- [obs; the borrow; the token; held's token; held; _4; …; _3; …; _2; …; _1; …; _0; …]
-        returns ! (look ! 13 refl) $ forget ! 5 refl $ forget ! 7 refl $ forget ! 9 refl $ forget ! 11 refl $ forget ! 13 refl $
-        move ! (13 ∷ 14 ∷ []) $ free1 ! $ move ! (11 ∷ 12 ∷ []) $ free1 ! $ move ! (9 ∷ 10 ∷ []) $ free1 ! $ move ! (7 ∷ 8 ∷ []) $ free1 ! $ move ! (5 ∷ 6 ∷ []) $ free1 ! $ free0 ! $
-        by ! (exits r r′ e e′ (is .1)))))))))))))))))
+        -- [obs; the borrow; the token; held's token; held; _5; …; _4; …; _3; …; _2; …; _1; …; _0; …]
+        returns ! (look ! 15 refl) $ forget ! 5 refl $ forget ! 7 refl $ forget ! 9 refl $ forget ! 11 refl $ forget ! 13 refl $ forget ! 15 refl $
+        move ! (15 ∷ 16 ∷ []) $ free1 ! $ move ! (13 ∷ 14 ∷ []) $ free1 ! $ move ! (11 ∷ 12 ∷ []) $ free1 ! $ move ! (9 ∷ 10 ∷ []) $ free1 ! $ move ! (7 ∷ 8 ∷ []) $ free1 ! $ move ! (5 ∷ 6 ∷ []) $ free1 ! $ free0 ! $
+        by ! (exits r r′ e e′ (is .1))))))))))))))))))
 
 module _ {M : Type 1} (𝓤 : URA M) (H : Heap 𝓤) (A : Atoms 𝓤) (W : Given 𝓤 H A) (at-mem : Memory → SProp 𝓤) (run : Routine → Fun 𝓤) where
   take-walks : (C : Calls 𝓤 H) (Λ : Loops 𝓤 H) → FmC 𝓤 H (W .laws) C → Triple 𝓤 (C #numbers·maker·free-from) (FreeFrom 𝓤 H A at-mem run) → Triple 𝓤 (C #numbers·maker·after) (After 𝓤 H A at-mem run)
