@@ -1,6 +1,6 @@
 -- What the search finds is the first number, from the candidate upwards, that is not held; and there is one such number only.
 -- Assumes nothing.
-use Prim.Native.Nat.{ℕ, zero, suc, _+_, _%_, _^_, _<_, _≤_}
+use Prim.Native.Nat.{ℕ, zero, suc, _+_, _^_, _<_, _≤_}
 use native.Mathlib.Omega.{arith}
 use native.Mathlib.Nat.{mod-lt, not-suc-le-zero}
 use mathlib.Core.Bool.{Bool, true, false}
