@@ -1,8 +1,14 @@
--- `Orders`: relations on numbers. `Paths`: a closed path has a largest member. `Rings`: no ring of jobs. `Cycles`: no cycle.
+-- `Orders`: chains, and orders of numbers. `Paths`: a closed path has a greatest member. `Rings`: no ring of jobs. `Cycles`: no cycle.
 -- `Progress`: nothing stands still, and the promise whole. `Later`: the rule on walks stays.
+-- `Opening`, `Marking`, `Releasing`, `Closing`: each small change keeps the rules. `Calls`: so does each call.
 pub mod Orders
 pub mod Paths
 pub mod Rings
 pub mod Cycles
 pub mod Progress
 pub mod Later
+pub mod Opening
+pub mod Marking
+pub mod Releasing
+pub mod Closing
+pub mod Calls
