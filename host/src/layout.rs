@@ -47,10 +47,10 @@ pub fn put_u32(bytes: &mut Bytes, at: usize, value: u32) {
 /// Is slot `slot` in the set that begins at byte `at`? (Bit 0 is the lowest bit
 /// of the first byte, as the sets are little endian.)
 pub fn in_set(bytes: &Bytes, at: usize, slot: usize) -> bool {
-    bytes[at + slot / 8] / 2u8.pow((slot % 8) as u32) % 2 == 1
+    bytes[at + slot / 8] >> (slot % 8) & 1 == 1
 }
 
-/// Put slot `slot`, which is not in it, into the set that begins at byte `at`.
+/// Put slot `slot` into the set that begins at byte `at`.
 pub fn add_to_set(bytes: &mut Bytes, at: usize, slot: usize) {
-    bytes[at + slot / 8] += 2u8.pow((slot % 8) as u32);
+    bytes[at + slot / 8] |= 1 << (slot % 8);
 }

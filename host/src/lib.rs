@@ -4,8 +4,12 @@
 
 pub mod arguments;
 pub mod call;
+pub mod compare;
+pub mod damage;
 pub mod layout;
 pub mod lean;
+#[cfg(library_linked)]
+pub mod library;
 pub mod plain;
 pub mod random;
 pub mod records;
