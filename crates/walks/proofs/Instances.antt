@@ -50,6 +50,18 @@ three-found : count (plain 32 16) (machine three (plain 32 16) 12 .found) ≡ 2
 unfolding machine sum
 three-found = refl
 
+-- {0,1,2} and {0,1,2}: job 0 is stood at three times, and each of its closing moves would come up twice
+abbrev wide : Graph
+wide = graph 1 (7 ∷ 7 ∷ [])
+
+wide-moves : machine wide (plain 32 16) 10 .moves ≡ 9
+unfolding machine
+wide-moves = refl
+
+wide-opening : opening wide .moves ≡ 9
+unfolding openingSearch including
+wide-opening = refl
+
 -- {0,1} and {0,1} with a dependency at 0 from 0 to 1, after an ask
 abbrev asked : Graph
 asked = record { jobs = 32; databases = 16; new = 1; names = two .names; dep = λ u v w. eqb u 0 && eqb v 0 && eqb w 1 }

@@ -1,4 +1,4 @@
--- `Promise`: all that is promised of the opening search. `Opening`: the same of an opening's search, ready to be cited. `Instances`: small graphs, computed.
+-- `Promise`: all that is promised of the opening search. `Opening`: the same of an opening's search, ready to be cited. `Slips`, `Instances`: walks and searches of small graphs.
 -- Walks: `Walk`, `Named`, `Engine`. The nested form: `Marking`, `Next`, `Visit`, `Nested`, `Fuel`, `Run`. The machine: `First`, `Choice`, `Trail`, `Invariant`, `Machine`. Both: `Same`.
 pub mod Walk
 pub mod Named
@@ -17,4 +17,5 @@ pub mod Machine
 pub mod Same
 pub mod Promise
 pub mod Opening
+pub mod Slips
 pub mod Instances

@@ -22,10 +22,18 @@ pub end-at : (G : Graph) (v t u w : ℕ) → ¬ (u ≡ t) → Link G u v w → w
 end-at G v t u w turn l e (inl p) = absurd (l .differ (e ∙ sym p))
 end-at G v t u w turn l e (inr r) = record { through = t; walk = r; turns = turn; closes = rw e at l }
 
--- a walk comes to jobs and databases of the graph
+-- a walk comes to jobs other than the new one, through databases
 pub reach-job : {G : Graph} {w u : ℕ} → Reach G w u → w < G .jobs
 reach-job (first l ne) = l .job
 reach-job (next r turn l ne) = l .job
+
+pub reach-database : {G : Graph} {w u : ℕ} → Reach G w u → u < G .databases
+reach-database (first l ne) = l .database
+reach-database (next r turn l ne) = l .database
+
+pub reach-not-new : {G : Graph} {w u : ℕ} → Reach G w u → ¬ (w ≡ G .new)
+reach-not-new (first l ne) = ne
+reach-not-new (next r turn l ne) = ne
 
 -- what walks come to and end with are other jobs, at databases that they name
 other : (G : Graph) (w u : ℕ) → ¬ (w ≡ G .new) → G .names w u ≡ true → others G w u ≡ true
