@@ -6,7 +6,6 @@ use Prim.Native.Nat.{ℕ, zero, suc, _+_, _/_, _%_, _^_, _<_}
 use native.Mathlib.Omega.{arith}
 use native.Mathlib.Nat.{pow-suc, one-mul, div-div-eq-div-mul, div-lt-iff-lt-mul}
 use borrow.Author.Tests.{eq-eqb, eqb-true}
-use lib.Bits.{bitAnd}
 use lib.Dec.{eqb}
 use lib.Pow.{pow-pos, pow-add}
 use Rattle.loops.specs.Sum.{tally}

@@ -1,6 +1,6 @@
 -- How many members: the sum over the members, what one more or less makes of it, and where it is 0 or the whole width. Assumes nothing.
 use mathlib.Core.Path.{_≡_, refl, sym, ap, ap₂, _∙_}
-use mathlib.Core.Bool.{Bool, true, false, not, _&&_, _||_}
+use mathlib.Core.Bool.{Bool, true, false}
 use mathlib.Core.Logic.{_↔_}
 use Prim.Native.Nat.{ℕ, zero, suc, _+_, _-_, _*_, _/_, _%_, _^_, _≤_, _<_}
 use native.Mathlib.Nat.{pow-suc, mul-one}
@@ -8,7 +8,6 @@ use native.Mathlib.Omega.{arith}
 use borrow.Author.Tests.{eq-eqb, ne-eqb}
 use lib.Arith.{lt-one}
 use lib.Count.{ones, onesIn, ones-step, ones-ones}
-use lib.Dec.{eqb}
 use lib.Pow.{pow-pos, ones-lt}
 use Rattle.loops.specs.Sum.{sum, tally}
 use Rattle.loops.proofs.Sums.{sum-first, sum-same, sum-at, sum-le, sum-mono, sum-zero, tally-le, tally-mono}

@@ -2,18 +2,26 @@
 use mathlib.Core.Path.{_≡_, refl, sym, ap, _∙_}
 use mathlib.Core.Bool.{Bool, true, false}
 use mathlib.Core.Logic.{_⊎_, inl, inr}
-use Prim.Native.Nat.{ℕ, zero, suc, _<_}
+use Prim.Native.Nat.{ℕ, zero, suc, _^_, _<_}
 use native.Mathlib.Nat.{le-refl, not-suc-le-zero}
 use native.Mathlib.Omega.{arith}
 use lib.Dec.{eqb}
+use lib.Pow.{pow-pos}
 use Rattle.loops.specs.Loop.{over, guard}
 use Rattle.loops.proofs.Rules.{guard-yes, guard-no, below-suc}
-use Rattle.mask.specs.Member.{digit, holds, excluding}
+use Rattle.mask.specs.Member.{digit, holds, excluding, lowest}
 use Rattle.mask.specs.Members.{overMembers}
 use Rattle.mask.specs.Lowest.{Lowest}
 use Rattle.mask.proofs.Digits.{digit-none}
-use Rattle.mask.proofs.Change.{excluding-same, excluding-other}
-use Rattle.mask.proofs.Holds.{holds-of, holds-not}
+use Rattle.mask.proofs.Change.{excluding-same, excluding-other, member-le}
+use Rattle.mask.proofs.Holds.{holds-of, holds-not, holds-below, digit-on}
+use Rattle.mask.proofs.Equal.{below-iff}
+use Rattle.mask.proofs.Lowest.{trailing-lowest}
+
+-- a walk ends: what is left weighs less
+pub rest-falls : {n m w : ℕ} → Lowest n m w → excluding m w < m
+unfolding excluding
+rest-falls {n} {m} {w} l = rw (l .on) (omega (arith, member-le m w (l .on), pow-pos w))
 
 module _ {S : Type 0} (f : ℕ → S → S) where
   -- nothing is done below the lowest member
@@ -64,6 +72,19 @@ module _ {S : Type 0} (f : ℕ → S → S) where
       where
         back : (j : ℕ) → digit (excluding m w) j ≡ 1 → digit m j ≡ 1
         back j e = sym (excluding-other m w j (λ q. let z : digit (excluding m w) j ≡ 0 = rw q (excluding-same m w) in omega arith)) ∙ e
+
+    -- ---- the turn of `while m != 0 { let w = lowest(m); t = f(w, t); m = rest(m); }`, where the walked set has n digits
+
+    module _ (m w : ℕ) (t : S) (b : m₀ < 2 ^ n) (ne : ¬ (m ≡ 0)) (h : Left n m₀ s m t) (e : w ≡ lowest n m) where
+      pub left-lowest : Lowest n m w
+      left-lowest =
+          rw e (trailing-lowest n m (omega arith) (below-iff n m .1 (λ j p. holds-below n m₀ j b (holds-of m₀ j (h .among j (digit-on m j p))))))
+
+      pub left-rest : (k : ℕ) (r : S) → k ≡ excluding m (lowest n m) → r ≡ f w t → Left n m₀ s k r
+      left-rest k r p q = left-turn m w t left-lowest h k r (rw e p) q
+
+      pub left-falls : (k : ℕ) → k ≡ excluding m (lowest n m) → k < m
+      left-falls k p = rw (p, ← e) (rest-falls left-lowest)
 
     pub left-done : (m : ℕ) (t : S) → m ≡ 0 → Left n m₀ s m t → t ≡ overMembers n m₀ f s
     left-done m t z h = sym (overMembers-none n t) ∙ rw z at (h .same)
