@@ -5,7 +5,7 @@ use native.Mathlib.Omega.{arith}
 use native.Mathlib.Nat.{suc-mul, not-suc-le-zero, le-refl}
 use mathlib.Core.Bool.{Bool, true, false}
 use mathlib.Core.Logic.{_⊎_, inl, inr}
-use mathlib.Core.Path.{_≡_, refl, sym}
+use mathlib.Core.Path.{_≡_, refl, sym, ap}
 use Rattle.loops.specs.Sum.{sum, tally, pairs}
 use Rattle.loops.proofs.Rules.{below-suc}
 use Rattle.loops.proofs.Tests.{both}
@@ -83,3 +83,6 @@ tally-mono false false h = omega arith
 
 pub pairs-mono : (J D : ℕ) (p q : ℕ → ℕ → Bool) → ((w u : ℕ) → p w u ≡ true → q w u ≡ true) → pairs J D p ≤ pairs J D q
 pairs-mono J D p q h = sum-mono J _ _ (λ w l. sum-mono D _ _ (λ u e. tally-mono _ _ (h w u)))
+
+pub pairs-same : (J D : ℕ) (p q : ℕ → ℕ → Bool) → ((w u : ℕ) → p w u ≡ q w u) → pairs J D p ≡ pairs J D q
+pairs-same J D p q e = sum-same J _ _ (λ w h. sum-same D _ _ (λ u l. ap tally (e w u)))

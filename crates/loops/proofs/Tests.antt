@@ -3,7 +3,7 @@ use Prim.Native.Nat.{ℕ}
 use native.Mathlib.Omega.{arith}
 use mathlib.Core.Bool.{Bool, true, false, _&&_, _||_}
 use mathlib.Core.Logic.{_⊎_, inl, inr}
-use mathlib.Core.Path.{_≡_, refl}
+use mathlib.Core.Path.{_≡_, refl, sym}
 
 -- two answers of one test
 pub both : {A : Type 0} {b : Bool} → b ≡ true → b ≡ false → A
@@ -27,3 +27,14 @@ or-cases false b e = inr e
 pub or-right : (a b : Bool) → b ≡ true → a || b ≡ true
 or-right true b e = refl
 or-right false b e = e
+
+pub or-false : (a b : Bool) → a || b ≡ false → (a ≡ false) × (b ≡ false)
+or-false true b e = both refl e
+or-false false b e = (refl, e)
+
+-- tests that follow from each other are equal
+pub same-test : (a b : Bool) → (a ≡ true → b ≡ true) → (b ≡ true → a ≡ true) → a ≡ b
+same-test true true h k = refl
+same-test true false h k = sym (h refl)
+same-test false true h k = k refl
+same-test false false h k = refl

@@ -16,7 +16,7 @@ use Rattle.walks.specs.First.{firstOf, given}
 use Rattle.walks.specs.Machine.{Standing, mayBeChosen, chosen}
 use Rattle.walks.specs.Promise.{FirstChoice}
 use Rattle.walks.specs.Engine.{Made}
-use Rattle.loops.proofs.Tests.{both, and-left, and-right}
+use Rattle.loops.proofs.Tests.{both, and-left, and-right, or-false}
 use Rattle.walks.proofs.First.{given-some, given-none, first-none, First, first-some}
 
 six : (a b c d e f : Bool) → a && b && c && d && e && f ≡ true
@@ -27,10 +27,6 @@ six a b c d e f h =
     let h₃ = and-left (a && b && c) d h₄ in
     let h₂ = and-left (a && b) c h₃ in
     (and-left a b h₂, and-right a b h₂, and-right (a && b) c h₃, and-right (a && b && c) d h₄, and-right (a && b && c && d) e h₅, and-right (a && b && c && d && e) f h)
-
-or-false : (a b : Bool) → a || b ≡ false → (a ≡ false) × (b ≡ false)
-or-false true b e = both refl e
-or-false false b e = (refl, e)
 
 module _ (G : Graph) (K : Marks (G .jobs) (G .databases)) where
   -- what may be chosen at s

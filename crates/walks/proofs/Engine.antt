@@ -2,25 +2,17 @@
 -- Assumes nothing.
 use Prim.Native.Nat.{ℕ, _*_, _<_, _≤_}
 use native.Mathlib.Omega.{arith}
-use mathlib.Core.Bool.{Bool, true, false}
+use mathlib.Core.Bool.{Bool, true}
 use mathlib.Core.Logic.{_↔_}
-use mathlib.Core.Path.{_≡_, refl, sym, ap}
-use Rattle.loops.specs.Sum.{tally, pairs}
-use Rattle.loops.proofs.Sums.{sum-same}
+use mathlib.Core.Path.{_≡_}
+use Rattle.loops.specs.Sum.{tally}
+use Rattle.loops.proofs.Tests.{same-test}
+use Rattle.loops.proofs.Sums.{pairs-same}
 use Rattle.walks.specs.Walk.{Graph, Reach, first, next, WalkEnd, named}
 use Rattle.walks.specs.Engine.{Engine, Alike}
 use Rattle.walks.specs.Promise.{Right}
 use Rattle.walks.proofs.Walk.{sound-le}
 use Rattle.walks.proofs.Named.{named-limit}
-
-same-test : (a b : Bool) → (a ≡ true → b ≡ true) → (b ≡ true → a ≡ true) → a ≡ b
-same-test true true h k = refl
-same-test true false h k = sym (h refl)
-same-test false true h k = k refl
-same-test false false h k = refl
-
-pairs-same : (J D : ℕ) (p q : ℕ → ℕ → Bool) → ((w u : ℕ) → p w u ≡ q w u) → pairs J D p ≡ pairs J D q
-pairs-same J D p q e = sum-same J _ _ (λ w h. sum-same D _ _ (λ u l. ap tally (e w u)))
 
 module _ (G : Graph) (R F : ℕ → ℕ → Bool) (m : ℕ) (E : Engine G R F m) where
   walk-reached : {w u : ℕ} → Reach G w u → R w u ≡ true

@@ -1,6 +1,6 @@
 -- Fuel that is enough gives what any other fuel gives that is enough.
 -- Assumes nothing.
-use Prim.Native.Nat.{ℕ, zero, suc, _*_, _<_}
+use Prim.Native.Nat.{ℕ, zero, suc, _<_}
 use native.Mathlib.Omega.{arith}
 use mathlib.Core.Bool.{true, not}
 use mathlib.Core.Path.{_≡_, refl, ap}
@@ -8,7 +8,7 @@ use borrow.Author.Tests.{eqb-false, not-true}
 use lib.Dec.{eqb}
 use Rattle.walks.specs.Marks.{Marks}
 use Rattle.walks.specs.Walk.{Graph}
-use Rattle.walks.specs.Search.{Seek, back, markReached, forward, choose, across, pass, visit, fresh, openingSearch}
+use Rattle.walks.specs.Search.{Seek, back, markReached, forward, choose, across, pass, visit}
 use Rattle.loops.proofs.Rules.{both-steps, over-agree, guard-same, choice-same}
 use Rattle.loops.proofs.Tests.{and-left, and-right}
 use Rattle.walks.proofs.Marking.{count-le}
@@ -58,8 +58,3 @@ module _ (G : Graph) (K : Marks (G .jobs) (G .databases)) where
         pass-next G K f (visit G K f) (visit-next G K f) v t hv u hu r (o .0) .0,
         pass-same f g (visit G K f) (visit G K g) (visit-next G K f) (visit-same f g) v t hv u hu r (o .0) (o .1),
       )) s (ok, ok′) .1
-
-  pub search-same : G .new < G .jobs → (f g : ℕ) → G .jobs * G .databases < f → G .jobs * G .databases < g → openingSearch G K f ≡ openingSearch G K g
-  unfolding openingSearch
-  search-same new f g h k =
-      visit-same f g (G .new) (G .databases) new (fresh K) ((K .good-none, K .good-none), omega arith) ((K .good-none, K .good-none), omega arith)

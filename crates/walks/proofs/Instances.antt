@@ -75,7 +75,11 @@ full-moves : machine (graph 31 (replicate 32 1)) (rows 32 16) 93 .moves ≡ 62
 unfolding machine including
 full-moves = refl
 
--- the nested form with the sets of an opening
+-- the nested form with the sets of an opening: {0} and {0}, and the graphs above
+single-opening : opening (graph 1 (1 ∷ 1 ∷ [])) .moves ≡ 2
+unfolding openingSearch including
+single-opening = refl
+
 three-opening : opening three .moves ≡ 10
 unfolding openingSearch including
 three-opening = refl

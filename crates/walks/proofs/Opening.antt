@@ -15,13 +15,15 @@ use Rattle.mask.proofs.Size.{size-sum}
 use Rattle.walks.specs.Marks.{count}
 use Rattle.walks.specs.Walk.{Graph, Reach, WalkEnd, others, named}
 use Rattle.walks.specs.Rows.{rows}
+use Rattle.walks.specs.Machine.{machine}
 use Rattle.walks.specs.Search.{fresh, run}
 use Rattle.walks.specs.Opening.{opening, FoundAt}
-use Rattle.walks.specs.Promise.{Right}
+use Rattle.walks.specs.Promise.{Right, left}
 use Rattle.walks.proofs.Walk.{reach-job}
 use Rattle.walks.proofs.Engine.{engine-right}
 use Rattle.walks.proofs.Nested.{search-good, search-engine}
 use Rattle.walks.proofs.Run.{search-run}
+use Rattle.walks.proofs.Same.{machine-rows}
 
 -- how many pairs rows have: the members of every row
 pub rows-count : (J D : ℕ) (m : List ℕ) → count (rows J D) m ≡ sum D (λ u. size J (getD m u 0))
@@ -49,7 +51,11 @@ module _ (G : Graph) (new : G .new < G .jobs) where
   opening-right : Right G (λ w u. holds (getD (opening G .reached) u 0) w) (λ v u. holds (getD (opening G .found) u 0) v) (opening G .moves)
   opening-right = engine-right G _ _ _ (search-engine G (rows (G .jobs) (G .databases)) new (G .jobs * G .databases + 1) enough) new
 
-  -- the form that a proof of the code wants
+  -- it is what the machine of document 01 leaves after k moves, where k is enough
+  pub opening-machine : (k : ℕ) → 3 * named G ≤ k → left (rows (G .jobs) (G .databases)) (machine G (rows (G .jobs) (G .databases)) k) ≡ opening G
+  opening-machine k most = machine-rows G new k (G .jobs * G .databases + 1) most enough
+
+  -- and the form that a proof of the code wants
   pub opening-run : opening G ≡ run G (rows (G .jobs) (G .databases)) (G .new) (G .databases) (fresh (rows (G .jobs) (G .databases)))
   opening-run = search-run G (rows (G .jobs) (G .databases)) (G .jobs * G .databases + 1) new enough
 

@@ -3,17 +3,16 @@
 -- Assumes nothing.
 use Prim.Native.Nat.{ℕ, suc, _-_, _*_, _<_, _≤_}
 use native.Mathlib.Omega.{arith}
-use mathlib.Core.Bool.{true, false}
 use mathlib.Core.Path.{_≡_}
 use Rattle.loops.specs.Loop.{over}
 use Rattle.walks.specs.Marks.{Marks, count}
 use Rattle.walks.specs.Walk.{Graph}
-use Rattle.walks.specs.Search.{Seek, markReached, choose, pass, visit, run, fresh, openingSearch}
+use Rattle.walks.specs.Search.{Seek, pass, visit, run, fresh, openingSearch}
 use Rattle.loops.proofs.Rules.{both-steps, over-rule, over-agree}
-use Rattle.walks.proofs.Marking.{count-le, count-mono, count-put}
+use Rattle.walks.proofs.Marking.{count-le}
 use Rattle.walks.proofs.Walk.{Come}
 use Rattle.walks.proofs.Next.{Good, Ok, Next, steps}
-use Rattle.walks.proofs.Visit.{Goes, choose-next, pass-next, visit-next}
+use Rattle.walks.proofs.Visit.{Goes, pass-next, visit-next}
 use Rattle.walks.proofs.Fuel.{pass-same, visit-same}
 
 module _ (G : Graph) (K : Marks (G .jobs) (G .databases)) where
@@ -24,16 +23,6 @@ module _ (G : Graph) (K : Marks (G .jobs) (G .databases)) where
   -- just enough is enough
   left-ok : (s : Seek K) → Good G K s → Ok G K (suc (left s)) s
   left-ok s g = (g, omega (arith, count-le K (s .reached)))
-
-  -- a mark makes the measure fall
-  pub left-falls : (s : Seek K) (w u : ℕ) → Good G K s → w < G .jobs → u < G .databases → K .has (s .reached) w u ≡ false
-      → left (markReached K w u s) < left s
-  unfolding markReached
-  left-falls s w u g hw hu absent = omega (arith, count-put K (s .reached) w u (g .0) hw hu absent, count-le K (K .put (s .reached) w u))
-
-  -- and no step makes it rise
-  pub left-keeps : {C : Type 0} (s r : Seek K) → Next G K C s r → left r ≤ left s
-  left-keeps s r h = omega (arith, count-mono K (s .reached) (r .reached) (h .moreR))
 
   -- whatever fuel is enough, it is the same
   pub run-visit : (f v t : ℕ) → v < G .jobs → (s : Seek K) → Ok G K f s → visit G K f v t s ≡ run G K v t s
@@ -56,17 +45,11 @@ module _ (G : Graph) (K : Marks (G .jobs) (G .databases)) where
               (λ w x hw q a b. run-visit (left s) w x hw q a) v t hv u hu r (o .0) (o .1),
         )) s (left-ok s g, left-ok s g) .1
 
-    -- the loops, part of the way: for their invariants
+    -- the loop over databases, part of the way: for its invariant
     pub databases-next : (k : ℕ) → k ≤ G .databases → Next G K (Come G v t) s (over k (pass G K (run G K) v t) s)
     databases-next k h =
         over-rule (steps G K (Come G v t) (suc (left s))) (λ u r. Unit {0}) (λ u a b q x. tt) (pass G K (run G K) v t) k
         (λ u hu r o. (pass-next G K (left s) (run G K) (run-goes (left s)) v t hv u (omega arith) r o .0, tt)) s (left-ok s g) .0
-
-    pub jobs-next : (u : ℕ) → u < G .databases → ¬ (u ≡ t) → G .names v u ≡ true → (k : ℕ) → k ≤ G .jobs
-        → Next G K (Come G v t) s (over k (choose G K (run G K) v u) s)
-    jobs-next u hu turn e k h =
-        over-rule (steps G K (Come G v t) (suc (left s))) (λ w r. Unit {0}) (λ w a b q x. tt) (choose G K (run G K) v u) k
-        (λ w hw r o. (choose-next G K (left s) (run G K) (run-goes (left s)) v t hv u hu turn e w (omega arith) r o .0, tt)) s (left-ok s g) .0
 
   pub search-run : (f : ℕ) → G .new < G .jobs → G .jobs * G .databases < f → openingSearch G K f ≡ run G K (G .new) (G .databases) (fresh K)
   unfolding openingSearch
