@@ -88,7 +88,7 @@ holds-excluding m k j = by (eqb j k) refl
 -- ---- two sets
 
 -- what is said of two digits holds of any, once it holds of 0 and 1
-pub digits-of : (P : ℕ → ℕ → Type 0) → P 0 0 → P 0 1 → P 1 0 → P 1 1 → (p q : ℕ) → p < 2 → q < 2 → P p q
+digits-of : (P : ℕ → ℕ → Type 0) → P 0 0 → P 0 1 → P 1 0 → P 1 1 → (p q : ℕ) → p < 2 → q < 2 → P p q
 digits-of P a b c d zero zero hp hq = a
 digits-of P a b c d zero (suc zero) hp hq = b
 digits-of P a b c d (suc zero) zero hp hq = c

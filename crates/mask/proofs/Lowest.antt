@@ -14,7 +14,7 @@ use Rattle.mask.specs.Lowest.{Lowest, Free}
 use Rattle.mask.proofs.Digits.{digit-lt, digit-first, digit-suc, digit-not}
 use Rattle.mask.proofs.Holds.{holds-of, holds-not, holds-pos, holds-all}
 
-pub trailing-lowest : (n m : ℕ) → 0 < m → m < 2 ^ n → Lowest n m (trailingZeros n m)
+pub trailing-lowest : (n m : ℕ) → 0 < m → m < 2 ^ n → Lowest n m (lowest n m)
 unfolding trailingZeros
 trailing-lowest zero m p h = absurd (omega arith)
 trailing-lowest (suc n) m p h =
@@ -30,17 +30,6 @@ trailing-lowest (suc n) m p h =
         lower zero h all = digit-first m ∙ e
         lower (suc j) h all = digit-suc m j ∙ all j (omega arith)
     go (suc d) e ih = record { within = omega arith; on = digit-first m ∙ omega arith; below = λ j h. absurd (omega arith) }
-
--- the lowest digit that is not set
-pub trailing-free : (n m : ℕ) → m < 2 ^ n - 1 → Free n m (trailingZeros n (2 ^ n - 1 - m))
-trailing-free n m h =
-    let l = trailing-lowest n (2 ^ n - 1 - m) (omega arith) (omega (arith, pow-pos n)) in
-    let t : ℕ = trailingZeros n (2 ^ n - 1 - m) in
-    record {
-      within = l .within;
-      off = omega (arith, digit-not n m t (omega arith) (l .within), l .on, digit-lt m t);
-      below = λ j g. omega (arith, digit-not n m j (omega arith) (omega (arith, l .within)), l .below j g, digit-lt m j);
-    }
 
 -- ---- the same, said of members
 
@@ -74,7 +63,14 @@ lowest-at-most n m = trailing-le n m
 -- ---- the lowest that is missing
 
 pub free-of : (n m : ℕ) → m < 2 ^ n - 1 → Free n m (lowest n (2 ^ n - 1 - m))
-free-of n m h = trailing-free n m h
+free-of n m h =
+    let l = trailing-lowest n (2 ^ n - 1 - m) (omega arith) (omega (arith, pow-pos n)) in
+    let t : ℕ = lowest n (2 ^ n - 1 - m) in
+    record {
+      within = l .within;
+      off = omega (arith, digit-not n m t (omega arith) (l .within), l .on, digit-lt m t);
+      below = λ j g. omega (arith, digit-not n m j (omega arith) (omega (arith, l .within)), l .below j g, digit-lt m j);
+    }
 
 pub free-holds : {n m w : ℕ} → Free n m w → holds m w ≡ false
 free-holds {n} {m} {w} f = holds-not m w (f .off)

@@ -7,10 +7,10 @@ use native.Mathlib.Numerals.{add-one}
 use native.Mathlib.Omega.{arith}
 use lib.Arith.{lt-one}
 use lib.Pow.{pow-pos, pow-lt}
-use lib.Bits.{bitAnd, bitOr, and-mask, and-step, and-self, and-le-l, and-zero-l, and-comm}
+use lib.Bits.{bitAnd, bitOr, and-step, and-self, and-le-l, and-zero-l, and-comm}
 use Rattle.mask.specs.Member.{digit, including, excluding, joined, lowest}
 use Rattle.mask.specs.Lowest.{Lowest}
-use Rattle.mask.proofs.Digits.{digit-first, digit-suc, and-pow}
+use Rattle.mask.proofs.Digits.{digit-first, digit-suc}
 use Rattle.mask.proofs.Change.{or-pow, sub-pow, joined-below}
 use Rattle.mask.proofs.Lowest.{trailing-lowest}
 
@@ -32,14 +32,10 @@ or-shl w m k l = rw (one-shl w k l) (or-pow m k)
 pub joined-shl : (w m k : ℕ) → k < w → bitOr m (1 * 2 ^ k % 2 ^ w) ≡ joined w m k
 joined-shl w m k l = or-shl w m k l ∙ sym (joined-below w m k l)
 
-pub and-shl : (w m k : ℕ) → k < w → bitAnd m (1 * 2 ^ k % 2 ^ w) ≡ digit m k * 2 ^ k
-and-shl w m k l = rw (one-shl w k l) (and-pow m k)
-
 pub and-not-shl : (w m k : ℕ) → m < 2 ^ w → k < w → bitAnd m (2 ^ w - 1 - 1 * 2 ^ k % 2 ^ w) ≡ excluding m k
 and-not-shl w m k h l = rw (one-shl w k l) (and-not w m (2 ^ k) h (pow-lt l) ∙ sub-pow m k)
 
-pub and-one : (m k : ℕ) → bitAnd (m / 2 ^ k) 1 ≡ digit m k
-and-one m k = and-mask (m / 2 ^ k) 1
+-- ---- the set without its lowest member
 
 clear-is : (m w : ℕ) → digit m w ≡ 1 → excluding m w ≡ m - 2 ^ w
 unfolding excluding

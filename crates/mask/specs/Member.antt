@@ -1,4 +1,5 @@
--- A set of numbers below n in one number: k is a member where digit k is 1. Assumes nothing: these are definitions.
+-- A set of numbers in one number: k is a member where binary digit k is 1, so {0, 2} is 5. A set of numbers below n is a number below 2 ^ n.
+-- Assumes nothing: these are definitions.
 use mathlib.Core.Bool.{Bool}
 use Prim.Native.Nat.{ℕ, _+_, _-_, _*_, _/_, _%_, _^_}
 use lib.Bits.{bitAnd}
@@ -6,6 +7,7 @@ use lib.Count.{onesIn, trailingZeros}
 use lib.Dec.{eqb, ltb}
 use Rattle.loops.specs.Loop.{guard}
 
+-- digit k of m, and whether k is a member
 abbrev pub digit : ℕ → ℕ → ℕ
 digit m k = m / 2 ^ k % 2
 
@@ -30,10 +32,10 @@ less n a b = bitAnd a (2 ^ n - 1 - b)
 abbrev pub within : ℕ → ℕ → ℕ → Bool
 within n a b = eqb (less n a b) 0
 
--- the least member below n, or n
+-- The lowest member below n, or n; and how many there are below n. Both count digits as the machine does:
+-- `proofs/Lowest` and `proofs/Size` say of them that they are the lowest and the sum over the members.
 abbrev pub lowest : ℕ → ℕ → ℕ
 lowest n m = trailingZeros n m
 
--- how many members below n
 abbrev pub size : ℕ → ℕ → ℕ
 size n m = onesIn n m
