@@ -1,4 +1,4 @@
--- Every call leaves all that is kept. Assumes nothing.
+-- Every call leaves all that is kept.
 use Prim.Native.Nat.{ℕ}
 use mathlib.Core.Path.{_≡_, refl, sym, subst}
 use mathlib.Core.Logic.{_≢_, _⊎_, inl, inr}

@@ -1,4 +1,4 @@
--- A job that closes when nothing leads into it keeps every rule of the order. Assumes nothing.
+-- A job that closes when nothing leads into it keeps every rule of the order.
 use Prim.Native.Nat.{ℕ, _<_}
 use native.Mathlib.Omega.{arith}
 use native.Mathlib.Nat.{le-step}

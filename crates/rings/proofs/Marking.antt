@@ -1,4 +1,4 @@
--- A step asked for or confirmed and a close held leave every rule of the order as it was. Assumes nothing.
+-- A step asked for or confirmed and a close held leave every rule of the order as it was.
 use Prim.Native.Nat.{ℕ, _<_}
 use mathlib.Core.Path.{_≡_, sym, subst}
 use mathlib.Core.Logic.{_⊎_, inl, inr}

@@ -1,4 +1,4 @@
--- An opening keeps every rule: its search leaves no walk of the new job. Assumes nothing.
+-- An opening keeps every rule: its search leaves no walk of the new job.
 use Prim.Native.Nat.{ℕ, _<_}
 use native.Mathlib.Omega.{arith}
 use native.Mathlib.Nat.{le-step}
@@ -6,7 +6,7 @@ use mathlib.Core.Path.{_≡_, refl, sym, subst}
 use mathlib.Core.Logic.{_≢_, _⊎_, inl, inr}
 use Rattle.rings.specs.History.{History, Open, Released, BeforeAt}
 use Rattle.rings.specs.Walk.{Link, Walk, home, onward}
-use Rattle.rings.specs.Change.{opening}
+use Rattle.rings.specs.Change.{Leads, opening}
 use Rattle.rings.specs.Rule.{unsearched, Reached, first, next, Searched}
 use Rattle.rings.specs.Kept.{Formed, Depends, Walkless, Ordered, StepsWait, ClosesWait}
 use Rattle.rings.proofs.Orders.{last-or-below}
@@ -50,15 +50,11 @@ module _ (H : History) (named : ℕ → Type 0) (found : ℕ → ℕ → Type 0)
     new-open e = (omega arith, λ c. omega (arith, F .closed-opened c))
 
   module _ (F : Formed H) (D : Depends H) (S : Searched H named found) where
-    -- where a dependency into the new job comes from
-    abbrev Leads : ℕ → ℕ → Type 0
-    Leads k a = (named k × Open H a × Released H a k) ⊎ found a k
-
-    leads-open : {k a : ℕ} → Leads k a → Open H a
+    leads-open : {k a : ℕ} → Leads H named found k a → Open H a
     leads-open (inl (n, o, r)) = o
     leads-open (inr f) = S .found-open f
 
-    leads-names : {k a : ℕ} → Leads k a → H .names a k × named k
+    leads-names : {k a : ℕ} → Leads H named found k a → H .names a k × named k
     leads-names (inl (n, o, r)) = (F .asked-names (F .released-asked r), n)
     leads-names (inr f) = (S .found-names f, S .found-named f)
 

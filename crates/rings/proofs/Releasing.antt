@@ -1,4 +1,4 @@
--- A step that is released when it may go keeps every rule of the order. Assumes nothing.
+-- A step that is released when it may go keeps every rule of the order.
 use Prim.Native.Nat.{ℕ, _<_}
 use native.Mathlib.Omega.{arith}
 use native.Mathlib.Nat.{le-step}

@@ -19,7 +19,11 @@ fresh = record {
   dep = λ k a b. ⊥;
 }
 
--- A new job, at the databases of `named`. Into it lead the open jobs whose step there is released, and what the search has found.
+-- What goes before a new job at database k: the open jobs whose step there is released, confirmed or not, and what the search has found.
+abbrev pub Leads : History → (ℕ → Type 0) → (ℕ → ℕ → Type 0) → ℕ → ℕ → Type 0
+Leads H named found k a = (named k × Open H a × Released H a k) ⊎ found a k
+
+-- A new job, at the databases of `named`.
 abbrev pub opening : History → (ℕ → Type 0) → (ℕ → ℕ → Type 0) → History
 opening H named found = record {
   count = suc (H .count);
@@ -30,7 +34,7 @@ opening H named found = record {
   confirmed = H .confirmed;
   held = H .held;
   closed = H .closed;
-  dep = λ k a b. H .dep k a b ⊎ ((b ≡ H .count) × ((named k × Open H a × Released H a k) ⊎ found a k));
+  dep = λ k a b. H .dep k a b ⊎ ((b ≡ H .count) × Leads H named found k a);
 }
 
 -- Other marks, and all else as it was.
