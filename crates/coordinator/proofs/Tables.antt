@@ -1,0 +1,21 @@
+-- For the callers: what the functions over lent arrays say of the tables is what the definitions say of the state. Assumes nothing.
+use Prim.Native.Nat.{ℕ}
+use mathlib.Core.Path.{_≡_, refl, _∙_}
+use Rattle.mask.specs.Member.{lowest}
+use Rattle.coordinator.specs.declared.Coordinator.{Coordinator}
+use Rattle.coordinator.specs.Limits.{jobs}
+use Rattle.coordinator.specs.Views.{openSlots, ticket}
+use Rattle.coordinator.specs.Holder.{sharers, holders, holder}
+use Rattle.coordinator.specs.Tables.{openIn, sharersIn, holdersIn}
+
+pub open-slots-are : (s : Coordinator) (r : ℕ) → r ≡ openIn (s .named) → r ≡ openSlots s
+unfolding openIn openSlots
+open-slots-are s r e = e
+
+pub holders-are : (s : Coordinator) (o t r : ℕ) → o ≡ openIn (s .named) → r ≡ holdersIn (s .tickets) o t → r ≡ holders s t
+unfolding openIn openSlots holdersIn sharersIn holders sharers ticket
+holders-are s o t r p q = rw p at q
+
+pub holder-is : (s : Coordinator) (o t h r : ℕ) → o ≡ openIn (s .named) → h ≡ holdersIn (s .tickets) o t → r ≡ lowest jobs h → r ≡ holder s t
+unfolding holder
+holder-is s o t h r p q e = rw (holders-are s o t h p q) at e

@@ -1,0 +1,36 @@
+-- What the code reads of a state, told of the tables alone: inner functions are lent arrays and never see the state. Assumes nothing: these are definitions.
+use Prim.Native.Nat.{ℕ}
+use mathlib.Core.List.{List, []}
+use lib.Bits.{bitAnd}
+use lib.Dec.{eqb}
+use Rattle.loops.specs.Sum.{tally}
+use Rattle.mask.specs.Members.{gather, unionOf}
+use Rattle.coordinator.specs.declared.Coordinator.{Coordinator}
+use Rattle.coordinator.specs.Limits.{jobs, databases}
+use Rattle.coordinator.specs.Views.{entry}
+
+-- the slots that some database is named by
+unfoldable pub openIn : List ℕ → ℕ
+openIn named = unionOf databases (λ k. entry named k)
+
+-- the slots with ticket t
+unfoldable pub sharersIn : List ℕ → ℕ → ℕ
+sharersIn tickets t = gather jobs (λ j. tally (eqb (entry tickets j) t))
+
+-- the open slots with ticket t
+unfoldable pub holdersIn : List ℕ → ℕ → ℕ → ℕ
+holdersIn tickets slots t = bitAnd (sharersIn tickets t) slots
+
+-- a state by its tables: the number maker is of no matter to soundness
+abbrev pub tables : List ℕ → ℕ → List ℕ → List ℕ → List ℕ → List ℕ → List ℕ → List ℕ → Coordinator
+tables tickets held order named asked released confirmed dependencies = record {
+  tickets = tickets;
+  held = held;
+  order = order;
+  named = named;
+  asked = asked;
+  released = released;
+  confirmed = confirmed;
+  dependencies = dependencies;
+  maker = record { next = 0 };
+}
