@@ -1,9 +1,11 @@
 -- What the code reads of a state, told of the tables alone: inner functions are lent arrays and never see the state. Assumes nothing: these are definitions.
-use Prim.Native.Nat.{ℕ}
+use Prim.Native.Nat.{ℕ, _+_, _*_}
+use mathlib.Core.Bool.{not, _&&_}
 use mathlib.Core.List.{List, []}
 use lib.Bits.{bitAnd}
 use lib.Dec.{eqb}
 use Rattle.loops.specs.Sum.{tally}
+use Rattle.mask.specs.Member.{holds, within}
 use Rattle.mask.specs.Members.{gather, unionOf}
 use Rattle.coordinator.specs.declared.Coordinator.{Coordinator}
 use Rattle.coordinator.specs.Limits.{jobs, databases}
@@ -20,6 +22,11 @@ sharersIn tickets t = gather jobs (λ j. tally (eqb (entry tickets j) t))
 -- the open slots with ticket t
 unfoldable pub holdersIn : List ℕ → ℕ → ℕ → ℕ
 holdersIn tickets slots t = bitAnd (sharersIn tickets t) slots
+
+-- the steps at database k that are asked, unreleased, and may go
+unfoldable pub goingIn : List ℕ → ℕ → ℕ → ℕ → ℕ → ℕ
+goingIn dependencies k asked released confirmed =
+    gather jobs (λ j. tally (holds asked j && not (holds released j) && within jobs (entry dependencies (k * jobs + j)) confirmed))
 
 -- a state by its tables: the number maker is of no matter to soundness
 abbrev pub tables : List ℕ → ℕ → List ℕ → List ℕ → List ℕ → List ℕ → List ℕ → List ℕ → Coordinator
