@@ -96,6 +96,7 @@ static int slot_of(const struct state *s, uint32_t open, uint16_t ticket)
 struct search {
     const struct state *s;
     uint16_t masks[SLOTS];
+    uint16_t looked[SLOTS]; /* databases that some visit of the job looks through */
     int new;
     uint32_t reached[DATABASES];
     uint32_t found[DATABASES];
@@ -105,7 +106,9 @@ struct search {
 static void visit(struct search *search, int job, uint32_t through)
 {
     const struct state *s = search->s;
-    for (uint32_t us = search->masks[job] & ~through; us; us &= us - 1) {
+    uint32_t databases = search->masks[job] & ~search->looked[job] & ~through;
+    search->looked[job] |= databases;
+    for (uint32_t us = databases; us; us &= us - 1) {
         int u = lowest(us);
         uint32_t left = s->named[u] & ~search->reached[u] & ~bit(job);
         while (left) {
@@ -114,7 +117,7 @@ static void visit(struct search *search, int job, uint32_t through)
             if (s->before[u][other] & bit(job))
                 continue;
             if (other == search->new) {
-                search->moves += !(search->found[u] & bit(job));
+                search->moves++;
                 search->found[u] |= bit(job);
                 continue;
             }

@@ -1,6 +1,7 @@
 //! The opening search by depth first visits. What stood before a pair in the
 //! order of choice cannot be chosen later, as marks and found dependencies only
-//! grow, so each visit goes on where it was instead of looking anew.
+//! grow, so each visit goes on where it was instead of looking anew. What is
+//! reached and found, and so the moves, does not depend on who comes first.
 
 use super::{Lean, Members};
 
@@ -9,6 +10,9 @@ struct Search<'a> {
     named: &'a [u32; 16],
     /// The databases that each open job names.
     masks: [u16; 32],
+    /// Those of them that some visit of the job looks through: once is enough,
+    /// whoever of several visits does it.
+    looked: [u16; 32],
     new: usize,
     /// At each database, the jobs reached through it.
     reached: [u32; 16],
@@ -29,6 +33,7 @@ impl Lean {
             before: &self.before,
             named: &self.named,
             masks: self.masks(),
+            looked: [0; 32],
             new,
             reached: [0; 16],
             found: [0; 16],
@@ -58,7 +63,9 @@ impl Search<'_> {
     /// none, until nothing is left to choose.
     fn visit(&mut self, job: usize, through: u16) {
         let bit = 1 << job;
-        for u in Members(u32::from(self.masks[job] & !through)) {
+        let databases = self.masks[job] & !self.looked[job] & !through;
+        self.looked[job] |= databases;
+        for u in Members(u32::from(databases)) {
             let mut left = self.named[u] & !self.reached[u] & !bit;
             while left != 0 {
                 let other = left.trailing_zeros() as usize;
@@ -67,7 +74,7 @@ impl Search<'_> {
                     continue;
                 }
                 if other == self.new {
-                    self.moves += u16::from(self.found[u] & bit == 0);
+                    self.moves += 1;
                     self.found[u] |= bit;
                 } else {
                     // The forward move and the return move that will follow it.
