@@ -1,18 +1,20 @@
 -- Trailing zeros find the lowest member; those of the complement find the lowest number that is missing. Assumes nothing.
-use mathlib.Core.Path.{_≡_, refl, _∙_}
+use mathlib.Core.Path.{_≡_, refl, sym, _∙_}
 use mathlib.Core.Bool.{true, false}
 use mathlib.Core.Logic.{_↔_}
 use Prim.Native.Nat.{ℕ, zero, suc, _-_, _*_, _/_, _%_, _^_, _≤_, _<_}
 use native.Mathlib.Nat.{pow-suc, le-antisymm}
 use native.Mathlib.Decide.{decLt}
 use native.Mathlib.Omega.{arith}
+use borrow.Author.Tests.{eqb-false, not-true}
 use lib.Pow.{pow-pos}
 use lib.Count.{trailingZeros, under, trailing-of-zero, trailing-le}
-use Rattle.loops.proofs.Tests.{both}
-use Rattle.mask.specs.Member.{digit, holds, lowest}
+use Rattle.loops.proofs.Tests.{both, and-left, and-right}
+use Rattle.mask.specs.Member.{digit, holds, less, within, lowest}
 use Rattle.mask.specs.Lowest.{Lowest, Free}
 use Rattle.mask.proofs.Digits.{digit-lt, digit-first, digit-suc, digit-not}
-use Rattle.mask.proofs.Holds.{holds-of, holds-not, holds-pos, holds-all}
+use Rattle.mask.proofs.Change.{less-lt}
+use Rattle.mask.proofs.Holds.{holds-of, holds-not, holds-pos, holds-all, holds-less-any}
 
 pub trailing-lowest : (n m : ℕ) → 0 < m → m < 2 ^ n → Lowest n m (lowest n m)
 unfolding trailingZeros
@@ -53,6 +55,18 @@ pub lowest-unique : (n m w : ℕ) → m < 2 ^ n → Lowest n m w → lowest n m 
 lowest-unique n m w h l =
     let f = lowest-of n m w h (lowest-holds l) in
     le-antisymm (lowest-first f w (lowest-holds l)) (lowest-first l (lowest n m) (lowest-holds f))
+
+-- a set that is not empty has a member; one that is not within another has a member that the other lacks
+pub some-member : (n m : ℕ) → m < 2 ^ n → ¬ (m ≡ 0) → (j : ℕ) × (j < n) × (holds m j ≡ true)
+some-member n m h ne =
+    let l = trailing-lowest n m (omega arith) h in
+    (lowest n m, l .within, lowest-holds l)
+
+pub within-not : (n a b : ℕ) → a < 2 ^ n → b < 2 ^ n → within n a b ≡ false → (j : ℕ) × (holds a j ≡ true) × (holds b j ≡ false)
+within-not n a b ha hb e =
+    let (j, l, p) = some-member n (less n a b) (less-lt n a b ha) (eqb-false (less n a b) 0 e) in
+    let q = sym (holds-less-any n a b j ha hb) ∙ p in
+    (j, and-left (holds a j) _ q, not-true (holds b j) (and-right (holds a j) _ q))
 
 pub lowest-none : (n : ℕ) → lowest n 0 ≡ n
 lowest-none n = trailing-of-zero n
