@@ -90,7 +90,7 @@ module _ (H : History) (K : Kept H) where
       waits p (inr e) = subst (CloseWaits H) (sym e) w
 
 -- a close with those that it lets go, as long as some held close may go
-closings-kept : (H : History) (l : List ℕ) → Ordered H → StepsWait H → InTurn H l → ClosesWait (closings H l) → Kept (closings H l)
+pub closings-kept : (H : History) (l : List ℕ) → Ordered H → StepsWait H → InTurn H l → ClosesWait (closings H l) → Kept (closings H l)
 closings-kept H [] K Q t C = record { ordered = K; steps-wait = Q; closes-wait = C }
 closings-kept H (a ∷ l) K Q (o, may, all, t) C =
     closings-kept (closing H a) l (closing-ordered H o K may) (closing-steps-wait H o (K .depends) all Q) t C
