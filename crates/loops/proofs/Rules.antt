@@ -86,3 +86,11 @@ guard-yes b f s e = rw e
 pub guard-no : {S : Type 0} (b : Bool) (f : S → S) (s : S) → b ≡ false → guard b f s ≡ s
 unfolding guard
 guard-no b f s e = rw e
+
+pub choice-yes : {S : Type 0} (b : Bool) (f g : S → S) (s : S) → b ≡ true → choice b f g s ≡ f s
+unfolding choice
+choice-yes b f g s e = rw e
+
+pub choice-no : {S : Type 0} (b : Bool) (f g : S → S) (s : S) → b ≡ false → choice b f g s ≡ g s
+unfolding choice
+choice-no b f g s e = rw e

@@ -20,6 +20,14 @@ and-right false b e = absurd (both e refl)
 pub and-both : {a b : Bool} → a ≡ true → b ≡ true → a && b ≡ true
 and-both p q = rw (p, q)
 
+pub and-true : (b : Bool) → b && true ≡ b
+and-true true = refl
+and-true false = refl
+
+pub and-false : (b : Bool) → b && false ≡ false
+and-false true = refl
+and-false false = refl
+
 pub or-cases : (a b : Bool) → a || b ≡ true → (a ≡ true) ⊎ (b ≡ true)
 or-cases true b e = inl refl
 or-cases false b e = inr e

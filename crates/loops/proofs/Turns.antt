@@ -7,7 +7,7 @@ use Prim.Native.Nat.{ℕ, zero, suc, _+_, _<_, _≤_}
 use native.Mathlib.Numerals.{add-one}
 use native.Mathlib.Omega.{arith}
 use Rattle.loops.specs.Loop.{over, every}
-use Rattle.loops.proofs.Tests.{both, and-left, and-right}
+use Rattle.loops.proofs.Tests.{both, and-left, and-right, and-true, and-false}
 
 pub over-none : {A : Type 0} (f : ℕ → A → A) (a : A) → a ≡ over 0 f a
 unfolding over
@@ -29,14 +29,6 @@ every-more p i e = rw add-one (ap (λ (b : Bool). b && p i) e)
 -- a turn that holds, and one that does not
 pub every-on : (p : ℕ → Bool) (i : ℕ) → true ≡ every i p → p i ≡ true → true ≡ every (i + 1) p
 every-on p i e h = ap (λ (b : Bool). true && b) (sym h) ∙ every-more p i e
-
-and-true : (b : Bool) → (b && true) ≡ b
-and-true true = refl
-and-true false = refl
-
-and-false : (b : Bool) → (b && false) ≡ false
-and-false true = refl
-and-false false = refl
 
 pub every-fails : (p : ℕ → Bool) (n i : ℕ) → i < n → p i ≡ false → false ≡ every n p
 unfolding every
