@@ -1,0 +1,5 @@
+-- `Moves`: what the search does at one slot. `Room`: the moves fit, and unmarked pairs fall. `Slots`, `Databases`: the loops of its two functions.
+pub mod Moves
+pub mod Room
+pub mod Slots
+pub mod Databases
