@@ -1,3 +1,5 @@
--- `Bounds`: where a view can be true. `Stores`: loops of stores into a list.
+-- `Bounds`: where a view can be true. `Tests`, `Holder`: what the tests and choices of the calls say in views. `Stores`: loops of stores into a list.
 pub mod Bounds
+pub mod Tests
+pub mod Holder
 pub mod Stores
