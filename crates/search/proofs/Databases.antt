@@ -1,9 +1,8 @@
 -- The loop of visit_job: the databases of a job. And the whole search. Assumes nothing.
 use Prim.Native.Nat.{ℕ, _+_, _≤_, _<_}
 use native.Mathlib.Omega.{arith}
-use mathlib.Core.Bool.{true, not, _&&_}
 use mathlib.Core.List.{List}
-use mathlib.Core.Path.{_≡_, refl, sym, ap, _∙_}
+use mathlib.Core.Path.{_≡_, sym, ap, _∙_}
 use borrow.Author.Tests.{eq-eqb, ne-eqb, lt-ltb, le-ltb}
 use lib.ListN.{getD, replicate}
 use Rattle.loops.specs.Loop.{over}
@@ -14,7 +13,8 @@ use Rattle.mask.specs.Member.{digit, holds}
 use Rattle.mask.proofs.Holds.{holds-of}
 use Rattle.walks.specs.Walk.{Graph}
 use Rattle.walks.specs.Search.{Seek, fresh, pass, run}
-use Rattle.walks.proofs.Run.{run-is, databases-next, search-run}
+use Rattle.walks.proofs.Run.{run-is, databases-next}
+use Rattle.walks.proofs.Opening.{opening-run}
 use Rattle.search.specs.declared.Sought.{Sought}
 use Rattle.search.specs.Search.{graph, searched, sought}
 use Rattle.search.specs.Visit.{marks, seek, Ready, visitedJob, visitedDatabase}
@@ -68,4 +68,4 @@ module _ (named dependencies : List ℕ) (n : ℕ) where
   pub search-some : n < 32 → (R F : List ℕ) (r : ℕ) → seek R F r ≡ visitedJob named dependencies n n 16 (seek (replicate 16 0) (replicate 16 0) 0)
       → record { found = F; moves = r } ≡ sought named dependencies n
   unfolding sought searched fresh answer
-  search-some h R F r e = rw (sought, lt-ltb n 32 h) (ap answer (e ∙ sym (search-run G marks 513 h (omega arith))))
+  search-some h R F r e = rw (sought, lt-ltb n 32 h) (ap answer (e ∙ sym (opening-run G h)))

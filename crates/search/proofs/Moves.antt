@@ -1,6 +1,5 @@
 -- The moves as the code makes them, and what the definition does at one slot. Assumes nothing.
 use Prim.Native.Nat.{ℕ, _+_, _-_, _*_, _%_, _^_, _<_}
-use native.Mathlib.Omega.{arith}
 use native.Mathlib.Numerals.{add-one}
 use mathlib.Core.Bool.{true, false, not, _&&_}
 use mathlib.Core.List.{List}
@@ -12,7 +11,7 @@ use lib.ListN.{getD, set}
 use Rattle.loops.specs.Loop.{choice}
 use Rattle.loops.proofs.Rules.{guard-yes, guard-no, choice-yes, choice-no, guard-rule}
 use Rattle.mask.specs.Member.{digit, holds, excluding}
-use Rattle.mask.proofs.Change.{excluding-le, excluding-lt, less-lt}
+use Rattle.mask.proofs.Change.{excluding-lt, less-lt}
 use Rattle.mask.proofs.Holds.{holds-of, holds-excluding, holds-less}
 use Rattle.mask.proofs.Words.{or-shl, and-not-shl}
 use Rattle.walks.specs.Walk.{Graph}

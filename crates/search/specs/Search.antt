@@ -1,13 +1,14 @@
 -- The graph that the arrays hold, and what the search answers. Assumes nothing: these are definitions.
 use Prim.Native.Nat.{ℕ, _+_, _*_}
-use mathlib.Core.Bool.{Bool, true, false}
+use mathlib.Core.Bool.{true, false}
 use mathlib.Core.List.{List}
 use lib.Dec.{ltb}
 use lib.ListN.{getD, replicate}
 use Rattle.mask.specs.Member.{holds}
 use Rattle.walks.specs.Walk.{Graph}
 use Rattle.walks.specs.Rows.{rows}
-use Rattle.walks.specs.Search.{Seek, openingSearch}
+use Rattle.walks.specs.Search.{Seek}
+use Rattle.walks.specs.Opening.{opening}
 use Rattle.search.specs.declared.Sought.{Sought}
 
 -- `named` at u: the slots that name u. `dependencies` at u * 32 + w: the slots that go before w at u
@@ -20,9 +21,9 @@ graph named dependencies n = record {
   dep = λ u v w. holds (getD dependencies (u * 32 + w) 0) v;
 }
 
--- the opening search for the job in slot n, with fuel that is enough
+-- the opening search for the job in slot n
 unfoldable pub searched : List ℕ → List ℕ → ℕ → Seek (rows 32 16)
-searched named dependencies n = openingSearch (graph named dependencies n) (rows 32 16) 513
+searched named dependencies n = opening (graph named dependencies n)
 
 -- what is answered of it; beyond the last slot there is no job, and nothing is found
 unfoldable pub sought : List ℕ → List ℕ → ℕ → Sought
