@@ -1,3 +1,5 @@
 pub mod Same
 pub mod Marks
 pub mod Release
+pub mod Removal
+pub mod Entry
