@@ -2,4 +2,6 @@
 pub mod Bounds
 pub mod Tests
 pub mod Holder
+pub mod Sized
 pub mod Stores
+pub mod Marks
