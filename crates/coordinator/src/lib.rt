@@ -2,6 +2,7 @@
 mod answers;
 mod holder;
 mod release;
+mod remove;
 mod views;
 
 use answers::AskAnswer;
