@@ -4,4 +4,6 @@ pub mod Tests
 pub mod Holder
 pub mod Sized
 pub mod Stores
+pub mod Rows
+pub mod Release
 pub mod Marks

@@ -1,6 +1,6 @@
 -- Stores into a list, one after another: at the place f i the entry becomes g i of what stood there, for each i below n that passes the test p.
 -- Assumes nothing.
-use Prim.Native.Nat.{ℕ, zero, suc, _<_}
+use Prim.Native.Nat.{ℕ, zero, suc, _^_, _<_}
 use native.Mathlib.Nat.{not-suc-le-zero, le-refl}
 use native.Mathlib.Omega.{arith}
 use native.Mathlib.Decide.{ℕ-discrete}
@@ -12,7 +12,10 @@ use lib.ListN.{length, getD, set, length-set}
 use lib.Seq.{getD-set-same, getD-set-other}
 use Rattle.loops.specs.Loop.{over, guard}
 use Rattle.loops.proofs.Rules.{below-suc, guard-rule}
+use Rattle.loops.proofs.Turns.{over-keeps}
+use Rattle.coordinator.specs.Shape.{Sized}
 use Rattle.coordinator.specs.Views.{entry}
+use Rattle.effects.proofs.Sized.{sized-set}
 
 module _ (f : ℕ → ℕ) (g : ℕ → ℕ → ℕ) where
   abbrev pub storeAt : ℕ → List ℕ → List ℕ
@@ -26,6 +29,12 @@ module _ (f : ℕ → ℕ) (g : ℕ → ℕ → ℕ) where
     unfolding over
     stores-length zero l = refl
     stores-length (suc n) l = guard-rule (λ r. length r ≡ length l) (p n) (storeAt n) (stores n l) (λ e. length-set (stores n l) (f n) _ ∙ stores-length n l) (λ e. stores-length n l)
+
+    -- entries that stay small make a list that keeps its size
+    pub stores-sized : {m w : ℕ} (n : ℕ) (l : List ℕ) → Sized m w l → ((i x : ℕ) → x < 2 ^ w → g i x < 2 ^ w) → Sized m w (stores n l)
+    stores-sized {m} {w} n l h small =
+        over-keeps (Sized m w) n _ l
+        (λ i r b q. guard-rule (Sized m w) (p i) (storeAt i) r (λ e. sized-set q (f i) _ (small i _ (q .fits (f i)))) (λ e. q)) h
 
     -- what no place f i stands for stays
     pub stores-else : (n x : ℕ) (l : List ℕ) → ((i : ℕ) → i < n → ¬ (x ≡ f i)) → entry (stores n l) x ≡ entry l x
