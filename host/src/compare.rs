@@ -166,7 +166,7 @@ pub fn draw(random: &mut Random, most: usize) -> Parameters {
     let jobs = *random.pick(&[1, 2, 4, 8, 12, 20, 31, 33, 40]);
     let steps = jobs * greatest_width;
     Parameters {
-        seed: random.next(),
+        seed: random.number(),
         records: (40_000_000 / (steps * steps + 1)).clamp(200, 8_000).min(most),
         candidate: if random.one_in(2) { 0 } else { 65_535 - random.under(200) as u16 },
         databases,

@@ -9,7 +9,7 @@ impl Random {
         Random(seed)
     }
 
-    pub fn next(&mut self) -> u64 {
+    pub fn number(&mut self) -> u64 {
         self.0 = self.0.wrapping_add(0x9e37_79b9_7f4a_7c15);
         let mut mixed = self.0;
         mixed = (mixed ^ (mixed >> 30)).wrapping_mul(0xbf58_476d_1ce4_e5b9);
@@ -20,7 +20,7 @@ impl Random {
     /// A number under `bound`, which is not 0. The bounds here are so small that
     /// the remainder's slant does not show.
     pub fn under(&mut self, bound: usize) -> usize {
-        (self.next() % bound as u64) as usize
+        (self.number() % bound as u64) as usize
     }
 
     pub fn between(&mut self, least: usize, greatest: usize) -> usize {
@@ -37,11 +37,11 @@ impl Random {
     }
 
     pub fn byte(&mut self) -> u8 {
-        self.next() as u8
+        self.number() as u8
     }
 
     pub fn word(&mut self) -> u16 {
-        self.next() as u16
+        self.number() as u16
     }
 
     pub fn pick<'a, T>(&mut self, from: &'a [T]) -> &'a T {

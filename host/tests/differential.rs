@@ -61,8 +61,8 @@ fn plain_and_lean_close_in_the_same_order() {
 
 #[test]
 fn plain_and_lean_agree_on_damaged_states() {
-    let (unsound, accepted) = compare::damaged::<Plain, Lean>(99, 20_000).unwrap();
-    assert!(unsound > 10_000 && accepted > 10_000, "{unsound} unsound, {accepted} accepted");
+    let (unsound, accepted) = compare::damaged::<Plain, Lean>(99, 6_000).unwrap();
+    assert!(unsound > 5_000 && accepted > 5_000, "{unsound} unsound, {accepted} accepted");
 }
 
 /// Every refusal of the table and every call's answers occur in a stream.

@@ -66,7 +66,7 @@ fn pair<A: Player, B: Player>(amounts: &Amounts) -> Result<(), String> {
         streams += 1;
     }
     println!("{} and {}: {records} records in {streams} streams, 0 differences", A::NAME, B::NAME);
-    let (unsound, accepted) = compare::damaged::<A, B>(random.next(), amounts.states)?;
+    let (unsound, accepted) = compare::damaged::<A, B>(random.number(), amounts.states)?;
     println!(
         "{} and {}: {} calls on {} damaged or unusual states ({unsound} refused with 10, \
          {accepted} accepted), 0 differences",

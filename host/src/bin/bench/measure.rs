@@ -43,7 +43,7 @@ pub fn seconds(run: impl FnOnce()) -> f64 {
 }
 
 fn takes_part(implementation: &Implementation, round: usize) -> bool {
-    round % 10 == 0 || implementation.slow == 1
+    round.is_multiple_of(10) || implementation.slow == 1
 }
 
 /// Seconds that each implementation takes to play each piece of work once,
@@ -106,13 +106,11 @@ pub fn stream(
             all.push(parts_of(number * length, length));
         }
     }
-    for round in 0..ROUNDS / 5 {
+    for _ in 0..ROUNDS / 5 {
         for (place, one) in implementations.iter().enumerate() {
-            if takes_part(one, round) {
-                let mut state = [0; host::layout::SIZE];
-                let parts = all.iter_mut().flat_map(|costs| &mut costs[place]);
-                parts.for_each(|part| part.measure(one, &mut state, records));
-            }
+            let mut state = [0; host::layout::SIZE];
+            let parts = all.iter_mut().flat_map(|costs| &mut costs[place]);
+            parts.for_each(|part| part.measure(one, &mut state, records));
         }
     }
     let mean = |parts: &Vec<Part>| {
