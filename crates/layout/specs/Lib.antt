@@ -1,0 +1,2 @@
+-- A text put into a buffer: `Put`.
+pub mod Put

@@ -1,0 +1,2 @@
+-- A line of four decimal numbers: `Line`.
+pub mod Line
