@@ -1,9 +1,12 @@
 // The part between: decides for each step of each job whether it goes now or is held.
 mod answers;
+mod count;
+mod enter;
 mod holder;
 mod order;
 mod release;
 mod remove;
+mod tickets;
 mod views;
 
 use answers::AskAnswer;

@@ -29,10 +29,17 @@ table-take l d (suc n) h = rw (table-take l d n (omega arith)) (sym (take-suc l 
 pub table-of : {A : Type 0} (l : List A) (d : A) (n : ℕ) → length l ≡ n → table n (λ i. getD l i d) ≡ l
 table-of l d n e = table-take l d n (omega arith) ∙ take-all n l (omega arith)
 
--- a turn of the loop that fills one, and its end
+-- the loop that fills one: its start, a turn, its end at n, and its end where the list has no more
+pub table-none : {A : Type 0} (f : ℕ → A) → [] ≡ table 0 f
+unfolding table
+table-none f = refl
+
 pub table-turn : {A : Type 0} (a : List A) (f : ℕ → A) (i n : ℕ) (x : A) → x ≡ f i → length a ≡ n → i < n → take i a ≡ table i f → take (i + 1) (set a i x) ≡ table (i + 1) f
 unfolding table
 table-turn a f i n x q l h e = rw (add-one, q) (take-suc-set a i (f i) (omega arith) ∙ rw e)
+
+pub table-filled : {A : Type 0} (a : List A) (f : ℕ → A) (i n : ℕ) → i ≤ n → n ≤ i → take i a ≡ table i f → take n a ≡ table n f
+table-filled a f i n h h₂ e = ap (λ (k : ℕ). take k a) (sym (le-antisymm h h₂)) ∙ e ∙ ap (λ (k : ℕ). table k f) (le-antisymm h h₂)
 
 pub table-done : {A : Type 0} (a : List A) (f : ℕ → A) (i n : ℕ) → length a ≡ n → i ≤ n → n ≤ i → take i a ≡ table i f → a ≡ table n f
 table-done a f i n l h h₂ e = sym (take-all i a (omega arith)) ∙ e ∙ ap (λ (k : ℕ). table k f) (le-antisymm h h₂)

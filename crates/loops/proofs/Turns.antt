@@ -7,6 +7,7 @@ use Prim.Native.Nat.{ℕ, zero, suc, _+_, _<_, _≤_}
 use native.Mathlib.Numerals.{add-one}
 use native.Mathlib.Omega.{arith}
 use Rattle.loops.specs.Loop.{over, every}
+use Rattle.loops.specs.Sum.{sum}
 use Rattle.loops.proofs.Tests.{both, and-left, and-right, and-true, and-false}
 
 pub over-none : {A : Type 0} (f : ℕ → A → A) (a : A) → a ≡ over 0 f a
@@ -44,6 +45,18 @@ over-done f a n i h l e = e ∙ ap (λ (k : ℕ). over k f a) (le-antisymm h l)
 
 pub every-done : (p : ℕ → Bool) (n i : ℕ) {x : Bool} → i ≤ n → n ≤ i → x ≡ every i p → x ≡ every n p
 every-done p n i h l e = e ∙ ap (λ (k : ℕ). every k p) (le-antisymm h l)
+
+-- the loop that adds up
+pub sum-none : (g : ℕ → ℕ) → 0 ≡ sum 0 g
+unfolding sum
+sum-none g = refl
+
+pub sum-more : (g : ℕ → ℕ) (i : ℕ) {x y : ℕ} → x ≡ sum i g → y ≡ g i → x + y ≡ sum (i + 1) g
+unfolding sum
+sum-more g i p q = rw (p, q, add-one)
+
+pub sum-done : (g : ℕ → ℕ) (n i : ℕ) {x : ℕ} → i ≤ n → n ≤ i → x ≡ sum i g → x ≡ sum n g
+sum-done g n i h l e = e ∙ ap (λ (k : ℕ). sum k g) (le-antisymm h l)
 
 -- what every step keeps, the fold keeps
 pub over-keeps : {A : Type 0} (P : A → Type 0) (n : ℕ) (f : ℕ → A → A) (a : A) → ((k : ℕ) (x : A) → k < n → P x → P (f k x)) → P a → P (over n f a)

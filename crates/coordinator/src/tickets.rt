@@ -1,0 +1,37 @@
+// The tickets that open jobs hold.
+use crate::Coordinator;
+ghost use mathlib.Core.Path.{_≡_};
+ghost use Prim.Native.Nat.{ℕ, _≤_};
+ghost use lib.ListN.{length, take};
+ghost use Rattle.loops.specs.Table.{table};
+ghost use Rattle.coordinator.specs.Limits.{jobs};
+ghost use Rattle.coordinator.specs.Views.{entry};
+
+// The ticket in slot j, or 0 where there is no such slot: the opening order of a state that was handed in may hold any byte.
+fn ticket_at(tickets: &[u16; Coordinator::JOBS], j: u8) -> u16
+    requires { ⌜ length (now tickets) ≡ jobs ⌝ }
+    ensures { λ r. ⌜ r ≡ entry (now (tickets .entry)) j ⌝ }
+{
+    let at = j as usize;
+    if at < Coordinator::JOBS {
+        tickets[at]
+    } else {
+        0
+    }
+}
+
+// The tickets of the n open jobs in the order of their opening, with zeros after them.
+pub(crate) fn held_tickets(
+    tickets: &[u16; Coordinator::JOBS],
+    order: &[u8; Coordinator::JOBS],
+    n: usize,
+) -> [u16; Coordinator::JOBS]
+    requires { ⌜ (n ≤ jobs) × (length (now tickets) ≡ jobs) ⌝ }
+    ensures { λ r. ⌜ take n r ≡ table n (λ i. entry (now (tickets .entry)) (entry (now (order .entry)) i)) ⌝ }
+{
+    let mut held = [0u16; Coordinator::JOBS];
+    for i in 0..n {
+        held[i] = ticket_at(tickets, order[i]);
+    }
+    held
+}
