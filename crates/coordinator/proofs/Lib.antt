@@ -1,4 +1,6 @@
 -- `Sheet`: the job sheet. `Tables`: what the functions over lent arrays say is what the definitions say of the state. `Going`: gathering the steps that may go.
+-- `Unconfirmed`: gathering the slots with a step that is not confirmed.
 pub mod Sheet
 pub mod Tables
+pub mod Unconfirmed
 pub mod Going

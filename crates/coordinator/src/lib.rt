@@ -3,6 +3,7 @@ mod answers;
 mod count;
 mod enter;
 mod holder;
+mod may_close;
 mod order;
 mod release;
 mod remove;

@@ -1,20 +1,21 @@
 -- A set gathered from its digits, one a turn. Assumes nothing.
 use mathlib.Core.Path.{_≡_, refl, sym, ap, _∙_}
-use mathlib.Core.Bool.{Bool, true, false}
+use mathlib.Core.Bool.{Bool, true, false, _&&_}
 use mathlib.Core.Logic.{_⊎_, inl, inr, _↔_}
 use Prim.Native.Nat.{ℕ, zero, suc, _+_, _*_, _%_, _^_, _≤_, _<_, max}
 use native.Mathlib.Nat.{le-antisymm, pow-suc, le-refl, not-suc-le-zero, lt-of-lt-of-le, one-mul, zero-mul, mod-eq-of-lt}
 use native.Mathlib.Numerals.{add-one}
 use native.Mathlib.Omega.{arith}
-use lib.Bits.{bitOr, or-lt}
+use lib.Bits.{bitOr, or-lt, or-zero-r}
 use lib.Dec.{eqb}
 use lib.Pow.{pow-pos, pow-mono}
-use Rattle.loops.specs.Loop.{over}
+use Rattle.loops.specs.Loop.{over, guard}
 use Rattle.loops.specs.Sum.{tally}
-use Rattle.loops.proofs.Rules.{below-suc}
+use Rattle.loops.proofs.Rules.{below-suc, guard-yes, guard-no}
+use Rattle.loops.proofs.Turns.{over-same}
 use Rattle.loops.proofs.Sums.{tally-le}
 use Rattle.mask.specs.Member.{digit, holds}
-use Rattle.mask.specs.Members.{gather}
+use Rattle.mask.specs.Members.{overMembers, gather}
 use Rattle.mask.proofs.Digits.{digit-none, digit-or, digit-pow-same, digit-pow-other, high-zero}
 use Rattle.mask.proofs.Holds.{holds-none, holds-beyond}
 use Rattle.mask.proofs.Equal.{same-members}
@@ -96,3 +97,12 @@ gather-turn d i x y p q = rw (p, q, add-one)
 
 pub gather-done : (d : ℕ → ℕ) (n i x : ℕ) → i ≤ n → n ≤ i → x ≡ gather i d → x ≡ gather n d
 gather-done d n i x a b e = e ∙ ap (λ (k : ℕ). gather k d) (le-antisymm a b)
+
+-- gathered while the members of a set are walked: those of them that pass the test
+pub gather-among : (n m : ℕ) (p : ℕ → Bool) → overMembers n m (λ j x. bitOr x (tally (p j) * 2 ^ j)) 0 ≡ gather n (λ j. tally (holds m j && p j))
+unfolding overMembers gather
+gather-among n m p = over-same n _ _ 0 (λ j x l. by (holds m j) j x)
+  where
+    by : (b : Bool) (j x : ℕ) → guard b (λ y. bitOr y (tally (p j) * 2 ^ j)) x ≡ bitOr x (tally (b && p j) * 2 ^ j)
+    by true j x = guard-yes true (λ y. bitOr y (tally (p j) * 2 ^ j)) x refl
+    by false j x = guard-no false (λ y. bitOr y (tally (p j) * 2 ^ j)) x refl ∙ rw (zero-mul (2 ^ j)) (sym (or-zero-r x))
