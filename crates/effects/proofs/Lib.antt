@@ -6,4 +6,6 @@ pub mod Sized
 pub mod Stores
 pub mod Rows
 pub mod Release
+pub mod Found
+pub mod Enter
 pub mod Marks

@@ -52,3 +52,38 @@ module _ (d : List ℕ) (h : Sized steps jobs d) where
           ∙ ap (λ (z : Bool). z || holds (entry d (k * jobs + b)) a) (holds-one j a))
       by true e false y = rw (eqb-true u k e, and-false (eqb a j)) (ap (λ (x : ℕ). holds x a) (stores-off f g (holds m) apart jobs b d y))
       by false e z y = ap (λ (x : ℕ). holds x a) (stores-else f g (holds m) jobs (u * jobs + b) d (λ i q p. let ne = eqb-false u k e in omega arith))
+
+  -- ---- at each database k that passes the test, the set R k goes before slot n
+
+  module _ (R : ℕ → ℕ) (p : ℕ → Bool) (n : ℕ) (slot : n < jobs) where
+    abbrev pub ledInto : List ℕ
+    ledInto = stores (λ k. k * jobs + n) (λ k x. bitOr x (R k)) p databases d
+
+    pub led-into-sized : ((k : ℕ) → R k < 2 ^ jobs) → Sized steps jobs ledInto
+    led-into-sized small = stores-sized (λ k. k * jobs + n) (λ k x. bitOr x (R k)) p databases d h (λ k x q. or-lt jobs x (R k) q (small k))
+
+    pub led-into : ((u : ℕ) → databases ≤ u → R u ≡ 0) → (u a b : ℕ) → b < jobs
+        → holds (entry ledInto (u * jobs + b)) a ≡ eqb b n && p u && holds (R u) a || holds (entry d (u * jobs + b)) a
+    led-into end u a b c = by (eqb b n) refl (p u) refl (decLt u databases)
+      where
+        f : ℕ → ℕ
+        f k = k * jobs + n
+
+        g : ℕ → ℕ → ℕ
+        g k x = bitOr x (R k)
+
+        apart : (i e : ℕ) → f i ≡ f e → i ≡ e
+        apart i e q = omega arith
+
+        by : (t : Bool) → eqb b n ≡ t → (z : Bool) → p u ≡ z → Dec (u < databases)
+            → holds (entry ledInto (u * jobs + b)) a ≡ t && z && holds (R u) a || holds (entry d (u * jobs + b)) a
+        by true e true y (yes l) =
+            rw (eqb-true b n e)
+            (ap (λ (x : ℕ). holds x a) (stores-at f g p apart databases u d l (omega (arith, h .size)) y)
+            ∙ holds-or (entry d (u * jobs + n)) (R u) a
+            ∙ or-comm (holds (entry d (u * jobs + n)) a) _)
+        by true e true y (no l) =
+            rw (end u (omega arith), holds-none a)
+            (ap (λ (x : ℕ). holds x a) (stores-else f g p databases (u * jobs + b) d (λ i q z. omega arith)))
+        by true e false y l = rw (eqb-true b n e) (ap (λ (x : ℕ). holds x a) (stores-off f g p apart databases u d y))
+        by false e z y l = ap (λ (x : ℕ). holds x a) (stores-else f g p databases (u * jobs + b) d (λ i q w. let ne = eqb-false b n e in omega arith))
