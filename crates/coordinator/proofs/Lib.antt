@@ -1,6 +1,7 @@
 -- `Sheet`: the job sheet. `Tables`: what the functions over lent arrays say is what the definitions say of the state. `Going`: gathering the steps that may go.
--- `Unconfirmed`: gathering the slots with a step that is not confirmed.
+-- `Unconfirmed`: gathering the slots with a step that is not confirmed. `Testing`: the test for soundness over lent arrays is the definition's.
 pub mod Sheet
 pub mod Tables
 pub mod Unconfirmed
 pub mod Going
+pub mod Testing

@@ -1,14 +1,13 @@
 -- What the code reads of a state, told of the tables alone: inner functions are lent arrays and never see the state. Assumes nothing: these are definitions.
 use Prim.Native.Nat.{ℕ, _+_, _*_}
 use mathlib.Core.Bool.{Bool, not, _&&_, _||_}
-use mathlib.Core.List.{List, []}
+use mathlib.Core.List.{List}
 use lib.Bits.{bitAnd}
 use lib.Dec.{eqb}
 use Rattle.loops.specs.Loop.{every}
 use Rattle.loops.specs.Sum.{tally}
 use Rattle.mask.specs.Member.{holds, within}
 use Rattle.mask.specs.Members.{gather, unionOf}
-use Rattle.coordinator.specs.declared.Coordinator.{Coordinator}
 use Rattle.coordinator.specs.Limits.{jobs, databases}
 use Rattle.coordinator.specs.Views.{entry}
 
@@ -39,17 +38,3 @@ mayCloseNowIn dependencies held = gather jobs (λ j. tally (holds held j && mayC
 -- every step of slot j is confirmed
 unfoldable pub allConfirmedIn : List ℕ → List ℕ → ℕ → Bool
 allConfirmedIn named confirmed j = every databases (λ k. not (holds (entry named k) j) || holds (entry confirmed k) j)
-
--- a state by its tables: the number maker is of no matter to soundness
-abbrev pub tables : List ℕ → ℕ → List ℕ → List ℕ → List ℕ → List ℕ → List ℕ → List ℕ → Coordinator
-tables tickets held order named asked released confirmed dependencies = record {
-  tickets = tickets;
-  held = held;
-  order = order;
-  named = named;
-  asked = asked;
-  released = released;
-  confirmed = confirmed;
-  dependencies = dependencies;
-  maker = record { next = 0 };
-}

@@ -7,6 +7,7 @@ mod may_close;
 mod order;
 mod release;
 mod remove;
+mod sound;
 mod tickets;
 mod views;
 

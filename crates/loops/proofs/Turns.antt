@@ -93,3 +93,9 @@ every-not (suc n) p e = at (p n) refl (every-not n p)
     at true q below =
         let fails = below (sym (and-true (every n p)) ∙ ap (λ (b : Bool). every n p && b) (sym q) ∙ e) in
         (fails .0, omega (arith, fails .1), fails .2)
+
+-- two tests that agree below n
+pub every-same : (n : ℕ) (p q : ℕ → Bool) → ((k : ℕ) → k < n → p k ≡ q k) → every n p ≡ every n q
+unfolding every
+every-same zero p q e = refl
+every-same (suc n) p q e = rw (every-same n p q (λ k l. e k (omega arith)), e n (le-refl (suc n)))

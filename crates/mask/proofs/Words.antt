@@ -1,17 +1,19 @@
 -- The operations as the code has them: at w digits `1 << k` is 1 * 2 ^ k % 2 ^ w, `!x` is 2 ^ w - 1 - x, and m - 1 of 0 may be anything. Assumes nothing.
 use mathlib.Core.Path.{_≡_, refl, sym, ap, _∙_}
+use mathlib.Core.Bool.{Bool, true, false}
 use mathlib.Core.Logic.{_⊎_, inl, inr}
 use Prim.Native.Nat.{ℕ, zero, suc, _+_, _-_, _*_, _/_, _%_, _^_, _<_}
-use native.Mathlib.Nat.{zero-lt-suc, pow-suc, one-mul, mod-eq-of-lt, mod-self, eq-or-lt-of-le, eq-zero-or-pos}
+use native.Mathlib.Nat.{zero-lt-suc, zero-mul, pow-suc, one-mul, mod-eq-of-lt, mod-self, eq-or-lt-of-le, eq-zero-or-pos}
 use native.Mathlib.Numerals.{add-one}
 use native.Mathlib.Omega.{arith}
 use lib.Arith.{lt-one}
 use lib.Pow.{pow-pos, pow-lt}
 use lib.Bits.{bitAnd, bitOr, and-step, and-self, and-le-l, and-zero-l, and-comm}
-use Rattle.mask.specs.Member.{digit, including, excluding, joined, lowest}
+use Rattle.mask.specs.Member.{digit, holds, including, excluding, joined, lowest}
 use Rattle.mask.specs.Lowest.{Lowest}
-use Rattle.mask.proofs.Digits.{digit-first, digit-suc}
+use Rattle.mask.proofs.Digits.{digit-first, digit-suc, and-pow}
 use Rattle.mask.proofs.Change.{or-pow, sub-pow, joined-below}
+use Rattle.mask.proofs.Holds.{digit-on, digit-off}
 use Rattle.mask.proofs.Lowest.{trailing-lowest}
 
 -- a & !b, at n digits
@@ -31,6 +33,24 @@ or-shl w m k l = rw (one-shl w k l) (or-pow m k)
 
 pub joined-shl : (w m k : ℕ) → k < w → bitOr m (1 * 2 ^ k % 2 ^ w) ≡ joined w m k
 joined-shl w m k l = or-shl w m k l ∙ sym (joined-below w m k l)
+
+-- the test `m & 1 << k != 0`
+and-shl : (w m k : ℕ) → k < w → bitAnd m (1 * 2 ^ k % 2 ^ w) ≡ digit m k * 2 ^ k
+and-shl w m k l = rw (one-shl w k l) (and-pow m k)
+
+pub meets-shl : (w m k : ℕ) → k < w → ¬ (bitAnd m (1 * 2 ^ k % 2 ^ w) ≡ 0) → holds m k ≡ true
+meets-shl w m k l ne = by (holds m k) refl
+  where
+    by : (b : Bool) → holds m k ≡ b → b ≡ true
+    by true e = refl
+    by false e = absurd (ne (and-shl w m k l ∙ rw (digit-off m k e) (zero-mul (2 ^ k))))
+
+pub misses-shl : (w m k : ℕ) → k < w → bitAnd m (1 * 2 ^ k % 2 ^ w) ≡ 0 → holds m k ≡ false
+misses-shl w m k l z = by (holds m k) refl
+  where
+    by : (b : Bool) → holds m k ≡ b → b ≡ false
+    by true e = let one : 1 * 2 ^ k ≡ 0 = rw (digit-on m k e) at (sym (and-shl w m k l) ∙ z) in absurd (omega (arith, pow-pos k))
+    by false e = refl
 
 pub and-not-shl : (w m k : ℕ) → m < 2 ^ w → k < w → bitAnd m (2 ^ w - 1 - 1 * 2 ^ k % 2 ^ w) ≡ excluding m k
 and-not-shl w m k h l = rw (one-shl w k l) (and-not w m (2 ^ k) h (pow-lt l) ∙ sub-pow m k)

@@ -1,0 +1,24 @@
+use Rattle.coordinator.specs.Parts.{rowWrong}
+use borrow.Author.Needs.{needs}
+use Rattle.coordinator.proofs.sound.row_wrong.Statement.{statement}
+use Rattle.coordinator.proofs.sound.row_wrong.Tie as tie
+use Rattle.coordinator.proofs.sound.row_wrong.Reads as reads
+use Rattle.coordinator.proofs.sound.row_wrong.Lts as lts
+use Rattle.coordinator.proofs.sound.partners.Reads as partners-reads
+use Rattle.coordinator.proofs.sound.pressing.Reads as pressing-reads
+
+-- src/sound.rt:93:13
+partners-requires : tie.Need-partners-requires
+partners-requires c κs = search needs
+
+-- src/sound.rt:93:34
+pressing-requires : tie.Need-pressing-requires
+pressing-requires c κs = search needs
+
+-- src/sound.rt:89:1
+returns : tie.Need-returns
+unfolding rowWrong
+returns c = rw (c .pressing .ensures, c .before .partners .ensures)
+
+pub row-wrong-spec : {M : Type 1} → statement M
+row-wrong-spec = tie.close (tie.spec partners-requires pressing-requires returns)

@@ -1,0 +1,48 @@
+-- The parts of the test for soundness, told of the tables that each of them reads. Assumes nothing: these are definitions.
+use Prim.Native.Nat.{ℕ}
+use mathlib.Core.Bool.{Bool, true, false, _&&_}
+use mathlib.Core.List.{List, []}
+use lib.Bits.{bitOr}
+use lib.Dec.{eqb, ltb}
+use Rattle.mask.specs.Member.{holds, less}
+use Rattle.coordinator.specs.declared.Coordinator.{Coordinator}
+use Rattle.coordinator.specs.Limits.{jobs}
+use Rattle.coordinator.specs.Test.{partners, pressing, marksSound, rowsSound}
+
+-- a state by its tables: the number maker is of no matter to soundness
+abbrev pub tables : List ℕ → ℕ → List ℕ → List ℕ → List ℕ → List ℕ → List ℕ → List ℕ → Coordinator
+tables tickets held order named asked released confirmed dependencies = record {
+  tickets = tickets;
+  held = held;
+  order = order;
+  named = named;
+  asked = asked;
+  released = released;
+  confirmed = confirmed;
+  dependencies = dependencies;
+  maker = record { next = 0 };
+}
+
+-- for what reads the tickets only, or the opening order only
+abbrev pub ticketsOnly : List ℕ → Coordinator
+ticketsOnly tickets = tables tickets 0 [] [] [] [] [] []
+
+abbrev pub orderOnly : List ℕ → Coordinator
+orderOnly order = tables [] 0 order [] [] [] [] []
+
+-- and for what reads the databases only
+abbrev pub stepsOnly : ℕ → List ℕ → List ℕ → List ℕ → List ℕ → List ℕ → Coordinator
+stepsOnly held named asked released confirmed dependencies = tables [] held [] named asked released confirmed dependencies
+
+-- place i has slot o, of n open slots of which `left` are not listed before it
+unfoldable pub placeIn : ℕ → ℕ → ℕ → ℕ → Bool
+placeIn left n i o = elim (ltb i n) [ true ↦ ltb o jobs && holds left o | false ↦ eqb o 0 ]
+
+-- the slots that go before slot b at a database and may not, and those that have to and do not
+unfoldable pub rowWrong : ℕ → ℕ → ℕ → ℕ → ℕ → ℕ
+rowWrong named waiting under b into = bitOr (less jobs into (partners named b)) (less jobs (pressing waiting under b) into)
+
+-- the steps at one database
+unfoldable pub stepsSound : ℕ → ℕ → ℕ → ℕ → ℕ → List ℕ → Bool
+stepsSound named asked released confirmed held rows =
+    marksSound named asked released confirmed held && rowsSound rows named (less jobs named released) (less jobs released confirmed)
