@@ -7,10 +7,7 @@ use mathlib.Core.Bool.{Bool, true, false, _&&_, _||_, and-true, and-false}
 use mathlib.Core.List.{List}
 use mathlib.Core.Logic.{_⊎_, inl, inr}
 use mathlib.Core.Path.{_≡_, refl, ap, sym, _∙_}
-use borrow.Author.Tests.{eq-eqb, eqb-true, eqb-false}
 use lib.Dec.{eqb, lit<}
-use lib.ListN.{length, set}
-use lib.Seq.{getD-set-same, getD-set-other}
 use Rattle.loops.proofs.Tests.{both, and-left, and-both, or-cases, or-right, same-test}
 use Rattle.mask.specs.Member.{holds, including, size}
 use Rattle.mask.specs.Members.{overMembers}
@@ -30,7 +27,7 @@ use Rattle.coordinator.specs.Open.{heldTickets, ticketFor, entered}
 use Rattle.effects.specs.View.{view, Alike}
 use Rattle.effects.specs.Effect.{enteredAt}
 use Rattle.effects.proofs.Bounds.{entry-beyond, open-iff, count-le}
-use Rattle.effects.proofs.Sized.{sized-set}
+use Rattle.effects.proofs.Sized.{sized-set, stored}
 use Rattle.effects.proofs.Stores.{stores, stores-at, stores-off, stores-else, stores-sized}
 use Rattle.effects.proofs.Rows.{led-into, led-into-sized}
 
@@ -54,14 +51,6 @@ module _ (l : List ℕ) (h : Sized databases jobs l) (n mask : ℕ) where
           rw (and-true (eqb a n))
           (ap (λ (x : ℕ). holds x a) (stores-at (λ k. k) (λ k x. including x n) (holds mask) (λ i k p. p) databases u l k (omega (arith, h .size)) e) ∙ holds-including (entry l u) n a)
       by false e = rw (and-false (eqb a n)) (ap (λ (x : ℕ). holds x a) (stores-off (λ k. k) (λ k x. including x n) (holds mask) (λ i k p. p) databases u l e))
-
--- an entry of a list after a store
-stored : (l : List ℕ) (i x : ℕ) → i < length l → (k : ℕ) → entry (set l i x) k ≡ elim (eqb k i) [ true ↦ x | false ↦ entry l k ]
-stored l i x b k = by (eqb k i) refl
-  where
-    by : (t : Bool) → eqb k i ≡ t → entry (set l i x) k ≡ elim t [ true ↦ x | false ↦ entry l k ]
-    by true e = rw (eqb-true k i e) (getD-set-same l i x 0 b)
-    by false e = getD-set-other l i k x 0 (eqb-false k i e)
 
 module _ (s : Coordinator) (h : Shape s) (n mask : ℕ) (slot : n < jobs) (some : 0 < mask) (small : mask < 2 ^ databases) where
   abbrev t : Coordinator

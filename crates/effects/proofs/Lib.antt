@@ -8,4 +8,6 @@ pub mod Rows
 pub mod Release
 pub mod Found
 pub mod Enter
+pub mod Strike
+pub mod Remove
 pub mod Marks

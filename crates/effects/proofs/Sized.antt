@@ -17,6 +17,14 @@ use Rattle.coordinator.specs.Shape.{Sized}
 use Rattle.coordinator.specs.Views.{entry}
 use Rattle.coordinator.specs.Change.{mark}
 
+-- an entry of a list after a store
+pub stored : (l : List ℕ) (i x : ℕ) → i < length l → (k : ℕ) → entry (set l i x) k ≡ elim (eqb k i) [ true ↦ x | false ↦ entry l k ]
+stored l i x b k = by (eqb k i) refl
+  where
+    by : (t : Bool) → eqb k i ≡ t → entry (set l i x) k ≡ elim t [ true ↦ x | false ↦ entry l k ]
+    by true e = rw (eqb-true k i e) (getD-set-same l i x 0 b)
+    by false e = getD-set-other l i k x 0 (eqb-false k i e)
+
 module _ {n w : ℕ} {l : List ℕ} (h : Sized n w l) where
   -- a list as long, with entries as small
   pub sized-as : {r : List ℕ} → length r ≡ length l → ((i : ℕ) → i < n → entry r i < 2 ^ w) → Sized n w r

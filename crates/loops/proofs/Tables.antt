@@ -6,8 +6,8 @@ use mathlib.Core.Logic.{⊎-elim}
 use native.Mathlib.Omega.{arith}
 use native.Mathlib.Nat.{le-antisymm, eq-or-lt-of-le, le-of-suc-le-suc}
 use native.Mathlib.Numerals.{add-one}
-use lib.ListN.{length, take, set, getD, length-append}
-use lib.Seq.{take-suc, take-all, take-suc-set}
+use lib.ListN.{length, take, set, getD, length-append, List·getD-append}
+use lib.Seq.{take-suc, take-all, take-suc-set, getD-at}
 use Rattle.loops.specs.Table.{table}
 
 pub length-table : {A : Type 0} (n : ℕ) (f : ℕ → A) → length (table n f) ≡ n
@@ -19,6 +19,14 @@ pub table-same : {A : Type 0} (n : ℕ) (f g : ℕ → A) → ((i : ℕ) → i <
 unfolding table
 table-same zero f g e = refl
 table-same (suc n) f g e = rw (table-same n f g (λ i l. e i (omega arith)), e n (omega arith))
+
+pub table-at : {A : Type 0} (n : ℕ) (f : ℕ → A) (i : ℕ) (d : A) → i < n → getD (table n f) i d ≡ f i
+unfolding table
+table-at zero f i d l = absurd (omega arith)
+table-at (suc n) f i d l =
+    ⊎-elim (λ q. rw q (getD-at (table n f) (f n) [] d n (length-table n f)))
+    (λ m. List·getD-append (table n f) (f n ∷ []) d i (rw (length-table n f) m) ∙ table-at n f i d m)
+    (eq-or-lt-of-le (le-of-suc-le-suc l))
 
 -- a list is the table of its elements
 pub table-take : {A : Type 0} (l : List A) (d : A) (n : ℕ) → n ≤ length l → table n (λ i. getD l i d) ≡ take n l
