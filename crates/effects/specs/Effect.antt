@@ -122,3 +122,20 @@ removedAt v j p = record {
   dep = λ u a b. not (eqb a j) && not (eqb b j) && v .dep u a b;
   candidate = v .candidate;
 }
+
+-- no job is open, and n is the candidate
+abbrev pub nothingOpen : ℕ → View
+nothingOpen n = record {
+  inMask = λ a u. false;
+  names = λ a u. false;
+  asked = λ a u. false;
+  released = λ a u. false;
+  confirmed = λ a u. false;
+  isOpen = λ a. false;
+  held = λ a. false;
+  ticket = λ a. 0;
+  count = 0;
+  opened = λ i. 0;
+  dep = λ u a b. false;
+  candidate = n;
+}
