@@ -9,12 +9,11 @@ use mathlib.Core.Path.{_≡_}
 use lib.ListN.{List·getD-eq-default}
 use Rattle.loops.proofs.Tests.{both}
 use Rattle.mask.specs.Member.{holds}
-use Rattle.mask.specs.Members.{unionOf}
 use Rattle.mask.proofs.Holds.{holds-none, holds-below}
 use Rattle.mask.proofs.Size.{size-le}
 use Rattle.mask.proofs.Union.{union-iff, union-lt}
 use Rattle.coordinator.specs.declared.Coordinator.{Coordinator}
-use Rattle.coordinator.specs.Limits.{jobs, databases, steps}
+use Rattle.coordinator.specs.Limits.{jobs, databases}
 use Rattle.coordinator.specs.Shape.{Sized, Shape}
 use Rattle.coordinator.specs.Views.{entry, inMask, names, asked, released, confirmed, openSlots, isOpen, openCount, held, into, dep}
 

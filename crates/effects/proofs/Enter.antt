@@ -1,6 +1,5 @@
 -- A job takes a free slot, last in the opening order, and whoever is released at a database it names goes before it there. Assumes nothing.
-use Prim.Native.Nat.{ℕ, suc, _+_, _^_, _<_}
-use native.Mathlib.Decide.{decLt}
+use Prim.Native.Nat.{ℕ, suc, _^_, _<_}
 use native.Mathlib.Nat.{mod-lt}
 use native.Mathlib.Omega.{arith}
 use mathlib.Core.Bool.{Bool, true, false, _&&_, _||_, and-true, and-false}
@@ -8,7 +7,7 @@ use mathlib.Core.List.{List}
 use mathlib.Core.Logic.{_⊎_, inl, inr}
 use mathlib.Core.Path.{_≡_, refl, ap, sym, _∙_}
 use lib.Dec.{eqb, lit<}
-use Rattle.loops.proofs.Tests.{both, and-left, and-both, or-cases, or-right, same-test}
+use Rattle.loops.proofs.Tests.{and-left, or-cases, or-right, same-test}
 use Rattle.mask.specs.Member.{holds, including, size}
 use Rattle.mask.specs.Members.{overMembers}
 use Rattle.mask.proofs.Change.{including-lt}
@@ -16,7 +15,7 @@ use Rattle.mask.proofs.Equal.{equal-members}
 use Rattle.mask.proofs.Holds.{holds-below, holds-including}
 use Rattle.mask.proofs.Lowest.{some-member}
 use Rattle.mask.proofs.Size.{size-including}
-use Rattle.numbers.specs.Ticket.{ticketFrom, after}
+use Rattle.numbers.specs.Ticket.{after}
 use Rattle.numbers.proofs.First.{ticket-small}
 use Rattle.coordinator.specs.declared.Coordinator.{Coordinator}
 use Rattle.coordinator.specs.Limits.{jobs, databases}
@@ -26,9 +25,9 @@ use Rattle.coordinator.specs.Change.{mark, withDependencies, lead, taken}
 use Rattle.coordinator.specs.Open.{heldTickets, ticketFor, entered}
 use Rattle.effects.specs.View.{view, Alike}
 use Rattle.effects.specs.Effect.{enteredAt}
-use Rattle.effects.proofs.Bounds.{entry-beyond, open-iff, count-le}
+use Rattle.effects.proofs.Bounds.{entry-beyond, open-iff}
 use Rattle.effects.proofs.Sized.{sized-set, stored}
-use Rattle.effects.proofs.Stores.{stores, stores-at, stores-off, stores-else, stores-sized}
+use Rattle.effects.proofs.Stores.{stores-at, stores-off, stores-sized}
 use Rattle.effects.proofs.Rows.{led-into, led-into-sized}
 
 -- ---- slot n joins the set at each database of the mask

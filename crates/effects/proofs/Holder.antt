@@ -5,7 +5,7 @@ use native.Mathlib.Omega.{arith}
 use mathlib.Core.Bool.{Bool, true, false, _&&_}
 use mathlib.Core.Path.{_≡_, ap, sym, _∙_}
 use borrow.Author.Tests.{eq-eqb, eqb-true}
-use lib.Bits.{bitAnd, and-le-l}
+use lib.Bits.{and-le-l}
 use lib.Dec.{eqb}
 use Rattle.loops.proofs.Tests.{and-left, and-right, and-both}
 use Rattle.mask.specs.Member.{holds}

@@ -1,13 +1,13 @@
 -- A step marked asked or confirmed, and a close marked held. Assumes nothing.
 use Prim.Native.Nat.{ℕ, _<_}
-use mathlib.Core.Path.{_≡_, refl}
+use mathlib.Core.Path.{refl}
 use Rattle.mask.proofs.Change.{including-lt}
 use Rattle.mask.proofs.Holds.{holds-including}
 use Rattle.coordinator.specs.declared.Coordinator.{Coordinator}
 use Rattle.coordinator.specs.Limits.{jobs, databases}
 use Rattle.coordinator.specs.Shape.{Shape}
 use Rattle.coordinator.specs.Views.{inMask, names, asked, released, confirmed, openSlots, isOpen, openCount, held, ticket, opened, into, dep}
-use Rattle.coordinator.specs.Change.{markAsked, markReleased, markConfirmed, markHeld}
+use Rattle.coordinator.specs.Change.{markAsked, markConfirmed, markHeld}
 use Rattle.effects.specs.View.{view, Alike}
 use Rattle.effects.specs.Effect.{askedAt, confirmedAt, heldAt}
 use Rattle.effects.proofs.Sized.{sized-mark, holds-mark}
@@ -22,20 +22,6 @@ module _ (s : Coordinator) (h : Shape s) (j : ℕ) (slot : j < jobs) where
     named = h .named;
     asked = sized-mark (h .asked) k j slot;
     released = h .released;
-    confirmed = h .confirmed;
-    dependencies = h .dependencies;
-    candidate = h .candidate;
-  }
-
-  pub shape-released : (k : ℕ) → Shape (markReleased s j k)
-  unfolding markReleased
-  shape-released k = record {
-    tickets = h .tickets;
-    held = h .held;
-    order = h .order;
-    named = h .named;
-    asked = h .asked;
-    released = sized-mark (h .released) k j slot;
     confirmed = h .confirmed;
     dependencies = h .dependencies;
     candidate = h .candidate;

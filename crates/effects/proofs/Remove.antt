@@ -5,16 +5,16 @@ use mathlib.Core.Bool.{Bool, true, false, not, _&&_}
 use mathlib.Core.Path.{_≡_, refl, ap, sym, _∙_}
 use lib.Dec.{eqb, lit<}
 use Rattle.loops.proofs.Tests.{and-left, and-right, and-both, same-test}
-use Rattle.mask.specs.Member.{holds, excluding, size}
+use Rattle.mask.specs.Member.{excluding, size}
 use Rattle.mask.proofs.Change.{excluding-lt}
 use Rattle.mask.proofs.Equal.{equal-members}
 use Rattle.mask.proofs.Holds.{holds-excluding}
 use Rattle.mask.proofs.Size.{size-excluding}
 use Rattle.coordinator.specs.declared.Coordinator.{Coordinator}
-use Rattle.coordinator.specs.Limits.{jobs, databases, steps}
+use Rattle.coordinator.specs.Limits.{jobs, databases}
 use Rattle.coordinator.specs.Shape.{Shape}
-use Rattle.coordinator.specs.Views.{entry, inMask, names, asked, released, confirmed, openSlots, isOpen, openCount, held, ticket, opened, into, dep}
-use Rattle.coordinator.specs.Change.{strike, place, removed}
+use Rattle.coordinator.specs.Views.{inMask, names, asked, released, confirmed, openSlots, isOpen, openCount, held, ticket, opened, into, dep}
+use Rattle.coordinator.specs.Change.{place, removed}
 use Rattle.effects.specs.View.{view, Alike}
 use Rattle.effects.specs.Effect.{removedAt}
 use Rattle.effects.proofs.Bounds.{open-iff, open-range}

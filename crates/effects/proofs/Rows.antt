@@ -4,7 +4,7 @@ use native.Mathlib.Omega.{arith}
 use native.Mathlib.Decide.{decLt}
 use mathlib.Core.Bool.{Bool, true, false, _&&_, _||_, and-true, and-false, or-comm}
 use mathlib.Core.List.{List}
-use mathlib.Core.Path.{_≡_, refl, ap, sym, _∙_}
+use mathlib.Core.Path.{_≡_, refl, ap, _∙_}
 use borrow.Author.Tests.{eqb-true, eqb-false}
 use lib.Bits.{bitOr, or-lt}
 use lib.Dec.{eqb}
@@ -16,7 +16,6 @@ use Rattle.coordinator.specs.Limits.{jobs, databases, steps}
 use Rattle.coordinator.specs.Shape.{Sized}
 use Rattle.coordinator.specs.Views.{entry}
 use Rattle.coordinator.specs.Change.{lead, leadTo}
-use Rattle.effects.proofs.Bounds.{entry-beyond}
 use Rattle.effects.proofs.Stores.{stores, stores-at, stores-off, stores-else, stores-sized}
 
 module _ (d : List ℕ) (h : Sized steps jobs d) where

@@ -1,11 +1,10 @@
 -- What the tests of the calls say in views: which step may go, which job may close, and which of them goes. Assumes nothing.
 use Prim.Native.Nat.{ℕ, _^_, _<_}
 use native.Mathlib.Omega.{arith}
-use mathlib.Core.Bool.{Bool, true, false, not, _&&_}
+use mathlib.Core.Bool.{true, false, not, _&&_}
 use mathlib.Core.Logic.{_↔_}
-use mathlib.Core.Path.{_≡_, sym, _∙_}
+use mathlib.Core.Path.{_≡_}
 use borrow.Author.Tests.{eq-eqb, eqb-true, eqb-false}
-use Rattle.loops.proofs.Tests.{both}
 use Rattle.loops.proofs.Turns.{every-at, every-of, every-not}
 use Rattle.mask.specs.Member.{holds}
 use Rattle.mask.proofs.Equal.{empty-iff, within-iff}
