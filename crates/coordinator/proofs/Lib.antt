@@ -5,3 +5,6 @@ pub mod Tables
 pub mod Unconfirmed
 pub mod Going
 pub mod Testing
+pub mod Refusing
+pub mod Step
+pub mod Asking

@@ -21,6 +21,11 @@ unfoldable pub firstRow : List Row → Option ℕ
 firstRow [] = none
 firstRow (r ∷ rows) = elim (r .applies) [ true ↦ some (r .number) | false ↦ firstRow rows ]
 
+-- the number that is answered: 0 where no row applies
+abbrev pub numberOf : Option ℕ → ℕ
+numberOf none = 0
+numberOf (some n) = n
+
 unfoldable pub allConfirmed : Coordinator → ℕ → Bool
 allConfirmed s j = every databases (λ k. not (names s j k) || confirmed s j k)
 
@@ -30,6 +35,18 @@ openRefusal s mask =
     (record { applies = not (sound s); number = 10 }
     ∷ record { applies = eqb mask 0; number = 1 }
     ∷ record { applies = eqb (openCount s) jobs; number = 2 }
+    ∷ [])
+
+-- what ask and confirm share, of what the code has read by then: whether the state is sound, the slots that hold the ticket, whether the job names
+-- database k; the last row is the call's own
+unfoldable pub stepRefusal : Bool → ℕ → ℕ → Bool → Bool → ℕ → Option ℕ
+stepRefusal isSound found k names applies number =
+    firstRow
+    (record { applies = not isSound; number = 10 }
+    ∷ record { applies = eqb found 0; number = 3 }
+    ∷ record { applies = not (ltb k databases); number = 4 }
+    ∷ record { applies = not names; number = 5 }
+    ∷ record { applies = applies; number = number }
     ∷ [])
 
 unfoldable pub askRefusal : Coordinator → ℕ → ℕ → Option ℕ

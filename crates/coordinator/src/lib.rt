@@ -1,10 +1,12 @@
 // The part between: decides for each step of each job whether it goes now or is held.
 mod answers;
+mod ask;
 mod count;
 mod enter;
 mod holder;
 mod may_close;
 mod order;
+mod refusal;
 mod release;
 mod remove;
 mod sound;

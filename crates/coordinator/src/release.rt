@@ -3,18 +3,34 @@ use crate::Coordinator;
 use numbers::Database;
 use numbers::Slot;
 ghost use mathlib.Core.Path.{_≡_};
-ghost use Prim.Native.Nat.{ℕ, _*_, _^_, _<_};
+ghost use Prim.Native.Nat.{ℕ, _+_, _*_, _^_, _<_};
 ghost use Rattle.loops.specs.Sum.{tally};
-ghost use Rattle.mask.specs.Member.{within, lowest};
+ghost use Rattle.mask.specs.Member.{less, within, lowest};
 ghost use Rattle.coordinator.specs.Limits.{jobs, databases};
+ghost use Rattle.coordinator.specs.Views.{entry};
 ghost use Rattle.coordinator.specs.Change.{mark, leadTo};
 ghost use Rattle.coordinator.specs.Tables.{goingIn};
 
-// Every dependency into the step comes from a confirmed one.
-pub(crate) fn may_go(into: u32, confirmed: u32) -> bool
+// Every one that leads into a step is confirmed.
+fn all_confirmed(into: u32, confirmed: u32) -> bool
     ensures { λ r. ⌜ r ≡ within jobs into confirmed ⌝ }
 {
     into & !confirmed == 0
+}
+
+// Slot j's step at database k may go.
+pub(crate) fn may_go<'a>(
+    dependencies: &'a [u32; Coordinator::STEPS],
+    confirmed: &'a [u32; Coordinator::DATABASES],
+    k: Database,
+    j: Slot,
+) -> bool
+    requires { ⌜ (k .0 < databases) × (j .0 < jobs) ⌝ }
+    ensures { λ r. ⌜ r ≡ within jobs (entry (now (dependencies .entry)) (k .0 * jobs + j .0)) (entry (now (confirmed .entry)) (k .0)) ⌝ }
+{
+    let at = k.0 as usize;
+    let step = at * Coordinator::JOBS + j.0 as usize;
+    all_confirmed(dependencies[step], confirmed[at])
 }
 
 // Slot j joins the set at database k.
@@ -25,6 +41,19 @@ pub(crate) fn mark(sets: &mut [u32; Coordinator::DATABASES], k: Database, j: Slo
     let at = k.0 as usize;
     let m = sets[at];
     sets[at] = m | 1 << j.0;
+}
+
+// The slots that name database k and whose step there isn't released.
+pub(crate) fn waiting<'a>(
+    named: &'a [u32; Coordinator::DATABASES],
+    released: &'a [u32; Coordinator::DATABASES],
+    k: Database,
+) -> u32
+    requires { ⌜ k .0 < databases ⌝ }
+    ensures { λ r. ⌜ r ≡ less jobs (entry (now (named .entry)) (k .0)) (entry (now (released .entry)) (k .0)) ⌝ }
+{
+    let at = k.0 as usize;
+    mask::slots::less(named[at], released[at])
 }
 
 // At database k, slot a goes before each of the later ones.
@@ -47,31 +76,50 @@ pub(crate) fn lead_to(
     }
 }
 
-// Slot j as a set where only confirmed ones lead into its step, and no slot otherwise.
+// Slot j as a set where its step may go, and no slot otherwise.
 fn going(into: u32, confirmed: u32, j: usize) -> u32
     requires { ⌜ j < jobs ⌝ }
     ensures { λ r. ⌜ r ≡ tally (within jobs into confirmed) * 2 ^ j ⌝ }
 {
-    if into & !confirmed == 0 { 1 << j } else { 0 }
+    if all_confirmed(into, confirmed) {
+        1 << j
+    } else {
+        0
+    }
 }
 
-// The asked and unreleased steps at database k that may go. All rows are read without a branch: that is faster than to pick those that wait.
-pub(crate) fn may_go_at(
+// All rows are read without a branch: that is faster than to pick those that wait.
+fn going_of(
     dependencies: &[u32; Coordinator::STEPS],
-    k: Database,
+    k: usize,
     asked: u32,
     released: u32,
     confirmed: u32,
 ) -> u32
-    requires { ⌜ k .0 < databases ⌝ }
-    ensures { λ r. ⌜ r ≡ goingIn (now (dependencies .entry)) (k .0) asked released confirmed ⌝ }
+    requires { ⌜ k < databases ⌝ }
+    ensures { λ r. ⌜ r ≡ goingIn (now (dependencies .entry)) k asked released confirmed ⌝ }
 {
-    let first = k.0 as usize * Coordinator::JOBS;
+    let first = k * Coordinator::JOBS;
     let mut free = 0u32;
     for j in 0..Coordinator::JOBS {
         free = free | going(dependencies[first + j], confirmed, j);
     }
     mask::slots::less(asked, released) & free
+}
+
+// The asked and unreleased steps at database k that may go.
+pub(crate) fn may_go_at<'a>(
+    dependencies: &'a [u32; Coordinator::STEPS],
+    asked: &'a [u32; Coordinator::DATABASES],
+    released: &'a [u32; Coordinator::DATABASES],
+    confirmed: &'a [u32; Coordinator::DATABASES],
+    k: Database,
+) -> u32
+    requires { ⌜ k .0 < databases ⌝ }
+    ensures { λ r. ⌜ r ≡ goingIn (now (dependencies .entry)) (k .0) (entry (now (asked .entry)) (k .0)) (entry (now (released .entry)) (k .0)) (entry (now (confirmed .entry)) (k .0)) ⌝ }
+{
+    let at = k.0 as usize;
+    going_of(dependencies, at, asked[at], released[at], confirmed[at])
 }
 
 // Of those that may go, the one that goes: the lowest slot.

@@ -1,6 +1,12 @@
 // What the tables mean, read off lent arrays.
 use crate::Coordinator;
+use numbers::Database;
+use numbers::Slot;
 ghost use mathlib.Core.Path.{_≡_};
+ghost use lib.ListN.{length};
+ghost use Rattle.mask.specs.Member.{holds};
+ghost use Rattle.coordinator.specs.Limits.{databases};
+ghost use Rattle.coordinator.specs.Views.{entry};
 ghost use Rattle.coordinator.specs.Tables.{openIn};
 
 // The open slots: those that some database is named by.
@@ -12,4 +18,25 @@ pub(crate) fn open_slots(named: &[u32; Coordinator::DATABASES]) -> u32
         m = m | named[k];
     }
     m
+}
+
+// The set at database k; beyond the last database there is none.
+pub(crate) fn at(sets: &[u32; Coordinator::DATABASES], k: Database) -> u32
+    requires { ⌜ length (now sets) ≡ databases ⌝ }
+    ensures { λ r. ⌜ r ≡ entry (now (sets .entry)) (k .0) ⌝ }
+{
+    let i = k.0 as usize;
+    if i < Coordinator::DATABASES {
+        sets[i]
+    } else {
+        0
+    }
+}
+
+// Whether the set at database k holds slot j.
+pub(crate) fn holds_at(sets: &[u32; Coordinator::DATABASES], k: Database, j: Slot) -> bool
+    requires { ⌜ length (now sets) ≡ databases ⌝ }
+    ensures { λ r. ⌜ r ≡ holds (entry (now (sets .entry)) (k .0)) (j .0) ⌝ }
+{
+    mask::slots::holds(at(sets, k), j.0)
 }

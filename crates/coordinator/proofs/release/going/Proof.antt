@@ -1,29 +1,33 @@
-use Prim.Native.Nat.{_^_}
-use mathlib.Core.Path.{sym}
-use native.Mathlib.Nat.{one-mul, zero-mul}
-use borrow.Author.Tests.{eq-eqb, ne-eqb}
-use Rattle.mask.proofs.Words.{one-shl}
+use mathlib.Core.Path.{sym, _∙_}
+use native.Mathlib.Omega.{arith}
+use native.Mathlib.Nat.{zero-mul}
+use Rattle.mask.proofs.Gather.{leaf-is}
 use borrow.Author.Needs.{needs}
 use Rattle.coordinator.proofs.release.going.Statement.{statement}
 use Rattle.coordinator.proofs.release.going.Tie as tie
 use Rattle.coordinator.proofs.release.going.Reads as reads
 use Rattle.coordinator.proofs.release.going.Lts as lts
+use Rattle.coordinator.proofs.release.all_confirmed.Reads as all-confirmed-reads
 
--- src/release.rt:50:38
+-- src/release.rt:55:8
+all-confirmed-requires : tie.Need-all-confirmed-requires
+all-confirmed-requires c κs = search needs
+
+-- src/release.rt:55:39
 cast-result : tie.Need-cast-result
 cast-result c = search needs
 
--- src/release.rt:50:33
+-- src/release.rt:55:34
 shl-result : tie.Need-shl-result
 shl-result c = search needs
 
--- src/release.rt:46:1
+-- src/release.rt:51:1
 returns : tie.Need-returns
-returns c = simp (eq-eqb _ _ (c .if1 .taken)) (rw (one-shl 32 _ (c .before .pre)) (sym (one-mul _)))
+returns c = leaf-is 32 1 _ (omega arith) (c .before .before .pre) ∙ rw (sym (c .before .all-confirmed .ensures) ∙ c .if1 .taken)
 
--- src/release.rt:46:1
+-- src/release.rt:51:1
 returns-2 : tie.Need-returns-2
-returns-2 c = simp (ne-eqb _ _ (c .if1 .left)) (sym (zero-mul (2 ^ (c .before .args .j))))
+returns-2 c = rw (sym (c .before .all-confirmed .ensures) ∙ c .if1 .left) (sym (zero-mul _))
 
 pub going-spec : {M : Type 1} → statement M
-going-spec = tie.close (tie.spec cast-result shl-result returns returns-2)
+going-spec = tie.close (tie.spec all-confirmed-requires cast-result shl-result returns returns-2)

@@ -1,0 +1,89 @@
+-- What ask and confirm read of a state before they change it. Assumes nothing.
+use mathlib.Core.Path.{_≡_, refl, sym, ap, _∙_}
+use mathlib.Core.Bool.{Bool, not, _||_}
+use mathlib.Core.List.{[]}
+use mathlib.Core.Option.{none}
+use Prim.Native.Nat.{ℕ, _^_, _<_}
+use native.Mathlib.Omega.{arith}
+use borrow.Author.Tests.{eqb-false, ltb-true, not-false}
+use lib.Bits.{and-le-l}
+use lib.Dec.{eqb, ltb}
+use Rattle.mask.specs.Member.{holds, lowest}
+use Rattle.mask.proofs.Gather.{gathered-lt}
+use Rattle.mask.proofs.Lowest.{trailing-lowest}
+use Rattle.coordinator.specs.declared.Coordinator.{Coordinator}
+use Rattle.coordinator.specs.Limits.{jobs, databases}
+use Rattle.coordinator.specs.Views.{entry, openSlots, ticket, opened, inMask, asked, released, confirmed}
+use Rattle.coordinator.specs.Holder.{sharers, holders, holder}
+use Rattle.coordinator.specs.Test.{sound, ticketSound, placeSound, listed, databaseSound}
+use Rattle.coordinator.specs.Refusal.{numberOf, stepRefusal, askRefusal, confirmRefusal}
+use Rattle.coordinator.specs.Tables.{openIn, holdersIn}
+use Rattle.coordinator.specs.Parts.{tables}
+use Rattle.coordinator.proofs.Tables.{holders-are}
+use Rattle.coordinator.proofs.Refusing.{passed, no-row}
+
+-- whether the state is sound, the slots whose job holds the ticket, and the lowest of them
+pub record Read (s : Coordinator) (t : ℕ) (b : Bool) (f j : ℕ) : Type 0 where
+  pub soundness : b ≡ sound (tables (s .tickets) (s .held) (s .order) (s .named) (s .asked) (s .released) (s .confirmed) (s .dependencies))
+  pub found : f ≡ holdersIn (s .tickets) (openIn (s .named)) t
+  pub slot : j ≡ lowest jobs f
+
+pub read : (s : Coordinator) (t : ℕ) (b : Bool) (f j : ℕ) → b ≡ sound (tables (s .tickets) (s .held) (s .order) (s .named) (s .asked) (s .released) (s .confirmed) (s .dependencies))
+    → f ≡ holdersIn (s .tickets) (openIn (s .named)) t → j ≡ lowest jobs f → Read s t b f j
+read s t b f j p q r = record { soundness = p; found = q; slot = r }
+
+sound-tables : (s : Coordinator) → sound (tables (s .tickets) (s .held) (s .order) (s .named) (s .asked) (s .released) (s .confirmed) (s .dependencies)) ≡ sound s
+unfolding sound openSlots ticketSound placeSound databaseSound sharers ticket opened listed
+sound-tables s = refl
+
+holders-lt : (s : Coordinator) (t : ℕ) → holders s t < 2 ^ jobs
+unfolding holders sharers
+holders-lt s t = omega (arith, and-le-l (sharers s t) (openSlots s), gathered-lt (λ j. eqb (ticket s j) t) jobs)
+
+module _ {s : Coordinator} {t : ℕ} {b : Bool} {f j : ℕ} (r : Read s t b f j) where
+  pub read-found : f ≡ holders s t
+  read-found = holders-are s (openIn (s .named)) t f refl (r .found)
+
+  pub read-slot : j ≡ holder s t
+  unfolding holder
+  read-slot = r .slot ∙ ap (lowest jobs) read-found
+
+  pub read-sound : b ≡ sound s
+  read-sound = r .soundness ∙ sound-tables s
+
+-- ---- refusal number 0: no row applies
+
+module _ (b : Bool) (f k : ℕ) (names applies : Bool) (m : ℕ) (n : ¬ (m ≡ 0)) (e : numberOf (stepRefusal b f k names applies m) ≡ 0) where
+  pub record Passed : Type 0 where
+    pub none-applies : stepRefusal b f k names applies m ≡ none
+    pub database : k < databases
+    pub some-hold : ¬ (f ≡ 0)
+
+  pub step-passed : Passed
+  unfolding stepRefusal
+  step-passed =
+      let a = passed (record { applies = not b; number = 10 }) _ (λ z. omega arith) e in
+      let c = passed (record { applies = eqb f 0; number = 3 }) _ (λ z. omega arith) (a .2) in
+      let d = passed (record { applies = not (ltb k databases); number = 4 }) _ (λ z. omega arith) (c .2) in
+      let g = passed (record { applies = not names; number = 5 }) _ (λ z. omega arith) (d .2) in
+      let h = passed (record { applies = applies; number = m }) [] n (g .2) in
+      record { none-applies = a .1 ∙ c .1 ∙ d .1 ∙ g .1 ∙ h .1 ∙ no-row; database = ltb-true k databases (not-false _ (d .0)); some-hold = eqb-false f 0 (c .0) }
+
+module _ {s : Coordinator} {t : ℕ} {b : Bool} {f j : ℕ} (r : Read s t b f j) where
+  slot-below : ¬ (f ≡ 0) → j < jobs
+  slot-below h = rw (r .slot) (trailing-lowest jobs f (omega arith) (rw (read-found r) (holders-lt s t)) .within)
+
+  -- what changing the tables asks for
+  pub step-fits : (k : ℕ) (names applies : Bool) (m x : ℕ) → ¬ (m ≡ 0) → x ≡ numberOf (stepRefusal b f k names applies m) → x ≡ 0 → (k < databases) × (j < jobs)
+  step-fits k names applies m x n e z = let p = step-passed b f k names applies m n (sym e ∙ z) in (p .database, slot-below (p .some-hold))
+
+  -- the rows that the code goes down are the call's
+  pub ask-rows : (k : ℕ) (names applies : Bool) → names ≡ holds (entry (s .named) k) j → applies ≡ holds (entry (s .asked) k) j
+      → stepRefusal b f k names applies 6 ≡ askRefusal s t k
+  unfolding stepRefusal askRefusal inMask asked
+  ask-rows k names applies p q = rw (p, q, read-sound r, read-found r, read-slot r)
+
+  pub confirm-rows : (k : ℕ) (names applies : Bool) → names ≡ holds (entry (s .named) k) j
+      → applies ≡ not (holds (entry (s .released) k) j) || holds (entry (s .confirmed) k) j → stepRefusal b f k names applies 7 ≡ confirmRefusal s t k
+  unfolding stepRefusal confirmRefusal inMask released confirmed
+  confirm-rows k names applies p q = rw (p, q, read-sound r, read-found r, read-slot r)

@@ -1,0 +1,34 @@
+// Refusals, by the rows of document 01's table: the number of the first that applies, or 0.
+use crate::Coordinator;
+use numbers::Database;
+ghost use mathlib.Core.Path.{_≡_};
+ghost use Rattle.coordinator.specs.Refusal.{numberOf, stepRefusal};
+
+// Of ask and confirm. `found` are the slots that hold the ticket, `names` says whether the job names database k; the last row is the call's own.
+pub(crate) fn of_step(
+    sound: bool,
+    found: u32,
+    k: Database,
+    names: bool,
+    applies: bool,
+    number: u8,
+) -> u8
+    ensures { λ r. ⌜ r ≡ numberOf (stepRefusal sound found (k .0) names applies number) ⌝ }
+{
+    if !sound {
+        return 10;
+    }
+    if found == 0 {
+        return 3;
+    }
+    if k.0 as usize >= Coordinator::DATABASES {
+        return 4;
+    }
+    if !names {
+        return 5;
+    }
+    if applies {
+        return number;
+    }
+    0
+}
