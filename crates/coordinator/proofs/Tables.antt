@@ -4,9 +4,10 @@ use mathlib.Core.Path.{_≡_, refl, _∙_}
 use Rattle.mask.specs.Member.{lowest}
 use Rattle.coordinator.specs.declared.Coordinator.{Coordinator}
 use Rattle.coordinator.specs.Limits.{jobs}
-use Rattle.coordinator.specs.Views.{openSlots, ticket}
+use Rattle.coordinator.specs.Views.{openSlots, ticket, held, into}
 use Rattle.coordinator.specs.Holder.{sharers, holders, holder}
-use Rattle.coordinator.specs.Tables.{openIn, sharersIn, holdersIn}
+use Rattle.coordinator.specs.Release.{mayClose, mayCloseNow}
+use Rattle.coordinator.specs.Tables.{openIn, sharersIn, holdersIn, mayCloseIn, mayCloseNowIn}
 
 pub open-slots-are : (s : Coordinator) (r : ℕ) → r ≡ openIn (s .named) → r ≡ openSlots s
 unfolding openIn openSlots
@@ -19,3 +20,11 @@ holders-are s o t r p q = rw p at q
 pub holder-is : (s : Coordinator) (o t h r : ℕ) → o ≡ openIn (s .named) → h ≡ holdersIn (s .tickets) o t → r ≡ lowest jobs h → r ≡ holder s t
 unfolding holder
 holder-is s o t h r p q e = rw (holders-are s o t h p q) at e
+
+pub may-close-is : (s : Coordinator) (j : ℕ) → mayCloseIn (s .dependencies) j ≡ mayClose s j
+unfolding mayCloseIn mayClose into
+may-close-is s j = refl
+
+pub may-close-now-is : (s : Coordinator) → mayCloseNowIn (s .dependencies) (s .held) ≡ mayCloseNow s
+unfolding mayCloseNowIn mayCloseIn mayCloseNow held mayClose into
+may-close-now-is s = refl

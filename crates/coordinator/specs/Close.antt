@@ -37,10 +37,13 @@ closeHeld (suc left) c = elim (eqb (mayCloseNow (c .state)) 0) [ true ↦ c | fa
 unfoldable pub closing : Coordinator → ℕ → Closing
 closing s j = closeHeld jobs (closeOne (record { count = 0; tickets = noTickets; state = s }) j)
 
+abbrev pub afterClosing : Closing → AfterClose
+afterClosing c = record { answer = CloseAnswer.Closed (c .count); tickets = c .tickets; state = c .state }
+
 unfoldable pub closedAt : Coordinator → ℕ → AfterClose
 closedAt s j =
     elim (mayClose s j) [
-      | true ↦ let c : Closing = closing s j in record { answer = CloseAnswer.Closed (c .count); tickets = c .tickets; state = c .state }
+      | true ↦ afterClosing (closing s j)
       | false ↦ record { answer = CloseAnswer.Held; tickets = noTickets; state = markHeld s j }
     ]
 

@@ -1,6 +1,7 @@
 // The part between: decides for each step of each job whether it goes now or is held.
 mod answers;
 mod ask;
+mod cascade;
 mod count;
 mod enter;
 mod holder;
