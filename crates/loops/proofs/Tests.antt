@@ -46,3 +46,8 @@ same-test true true h k = refl
 same-test true false h k = sym (h refl)
 same-test false true h k = k refl
 same-test false false h k = refl
+
+-- a test that is never true is false
+pub untrue : (b : Bool) → (b ≡ true → ⊥) → b ≡ false
+untrue true h = absurd (h refl)
+untrue false h = refl
