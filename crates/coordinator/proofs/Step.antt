@@ -70,7 +70,7 @@ module _ (b : Bool) (f k : ℕ) (names applies : Bool) (m : ℕ) (n : ¬ (m ≡ 
       record { none-applies = a .1 ∙ c .1 ∙ d .1 ∙ g .1 ∙ h .1 ∙ no-row; database = ltb-true k databases (not-false _ (d .0)); some-hold = eqb-false f 0 (c .0) }
 
 module _ {s : Coordinator} {t : ℕ} {b : Bool} {f j : ℕ} (r : Read s t b f j) where
-  slot-below : ¬ (f ≡ 0) → j < jobs
+  pub slot-below : ¬ (f ≡ 0) → j < jobs
   slot-below h = rw (r .slot) (trailing-lowest jobs f (omega arith) (rw (read-found r) (holders-lt s t)) .within)
 
   -- what changing the tables asks for

@@ -69,6 +69,17 @@ confirmRefusal s t k =
     ∷ record { applies = not (released s (holder s t) k) || confirmed s (holder s t) k; number = 7 }
     ∷ [])
 
+-- a close's rows, of what the code has read by then: whether the state is sound, the slots that hold the ticket, whether every step of the job is confirmed,
+-- whether its close is held
+unfoldable pub jobRefusal : Bool → ℕ → Bool → Bool → Option ℕ
+jobRefusal isSound found isConfirmed isHeld =
+    firstRow
+    (record { applies = not isSound; number = 10 }
+    ∷ record { applies = eqb found 0; number = 3 }
+    ∷ record { applies = not isConfirmed; number = 8 }
+    ∷ record { applies = isHeld; number = 9 }
+    ∷ [])
+
 unfoldable pub closeRefusal : Coordinator → ℕ → Option ℕ
 closeRefusal s t =
     firstRow

@@ -2,6 +2,7 @@
 mod answers;
 mod ask;
 mod cascade;
+mod close;
 mod count;
 mod enter;
 mod holder;

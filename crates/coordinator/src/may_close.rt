@@ -18,7 +18,7 @@ fn unconfirmed(named: u32, confirmed: u32) -> u32
 }
 
 // The slots with a step that is not confirmed.
-pub(crate) fn unfinished<'a>(
+fn unfinished<'a>(
     named: &'a [u32; Coordinator::DATABASES],
     confirmed: &'a [u32; Coordinator::DATABASES],
 ) -> u32
@@ -29,6 +29,17 @@ pub(crate) fn unfinished<'a>(
         m = m | unconfirmed(named[k], confirmed[k]);
     }
     m
+}
+
+// Every step of the job in slot j is confirmed.
+pub(crate) fn all_confirmed<'a>(
+    named: &'a [u32; Coordinator::DATABASES],
+    confirmed: &'a [u32; Coordinator::DATABASES],
+    j: Slot,
+) -> bool
+    ensures { λ r. ⌜ r ≡ allConfirmedIn (now (named .entry)) (now (confirmed .entry)) (j .0) ⌝ }
+{
+    !mask::slots::holds(unfinished(named, confirmed), j.0)
 }
 
 // No dependency goes into the job in slot j at any database.

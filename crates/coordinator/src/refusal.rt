@@ -2,7 +2,7 @@
 use crate::Coordinator;
 use numbers::Database;
 ghost use mathlib.Core.Path.{_≡_};
-ghost use Rattle.coordinator.specs.Refusal.{numberOf, stepRefusal};
+ghost use Rattle.coordinator.specs.Refusal.{numberOf, stepRefusal, jobRefusal};
 
 // Of ask and confirm. `found` are the slots that hold the ticket, `names` says whether the job names database k; the last row is the call's own.
 pub(crate) fn of_step(
@@ -29,6 +29,25 @@ pub(crate) fn of_step(
     }
     if applies {
         return number;
+    }
+    0
+}
+
+// Of close. `confirmed` says whether every step of the job is, `held` whether its close is.
+pub(crate) fn of_close(sound: bool, found: u32, confirmed: bool, held: bool) -> u8
+    ensures { λ r. ⌜ r ≡ numberOf (jobRefusal sound found confirmed held) ⌝ }
+{
+    if !sound {
+        return 10;
+    }
+    if found == 0 {
+        return 3;
+    }
+    if !confirmed {
+        return 8;
+    }
+    if held {
+        return 9;
     }
     0
 }

@@ -1,0 +1,83 @@
+use mathlib.Core.Path.{sym, ap, _∙_}
+use Rattle.coordinator.specs.Refusal.{numberOf}
+use Rattle.coordinator.proofs.Step.{read, read-slot}
+use Rattle.coordinator.proofs.Ending.{job-passed, job-fits, close-rows, close-refused, close-held, close-closed}
+use borrow.Author.Needs.{needs}
+use Rattle.coordinator.proofs.Coordinator.close.Statement.{statement}
+use Rattle.coordinator.proofs.Coordinator.close.Tie as tie
+use Rattle.coordinator.proofs.Coordinator.close.Reads as reads
+use Rattle.coordinator.proofs.Coordinator.close.Lts as lts
+use Rattle.coordinator.proofs.cascade.close_from.Reads as close-from-reads
+use Rattle.coordinator.proofs.holder.holder.Reads as holder-reads
+use Rattle.coordinator.proofs.holder.holders_of.Reads as holders-of-reads
+use Rattle.coordinator.proofs.may_close.all_confirmed.Reads as all-confirmed-reads
+use Rattle.coordinator.proofs.may_close.may_close.Reads as may-close-reads
+use Rattle.coordinator.proofs.refusal.of_close.Reads as of-close-reads
+use Rattle.coordinator.proofs.sound.all_sound.Reads as all-sound-reads
+use Rattle.mask.proofs.slots.holds.Reads as holds-reads
+use Rattle.mask.proofs.slots.with_member.Reads as with-member-reads
+
+-- src/close.rt:19:13
+all-sound-requires : tie.Need-all-sound-requires
+all-sound-requires c κs = search needs
+
+-- src/close.rt:29:13
+holders-of-requires : tie.Need-holders-of-requires
+holders-of-requires c κs = search needs
+
+-- src/close.rt:30:13
+holder-requires : tie.Need-holder-requires
+holder-requires c κs = search needs
+
+-- src/close.rt:31:13
+all-confirmed-requires : tie.Need-all-confirmed-requires
+all-confirmed-requires c κs = search needs
+
+-- src/close.rt:32:13
+holds-requires : tie.Need-holds-requires
+holds-requires c κs = search needs
+
+-- src/close.rt:33:13
+of-close-requires : tie.Need-of-close-requires
+of-close-requires c κs = search needs
+
+-- src/close.rt:36:16
+may-close-requires : tie.Need-may-close-requires
+may-close-requires c κs = job-fits (read (c .before .before .before .before .before .before .before .before .before .before .before .before .before .before .before .before .before .before .before .before .before .before .before .args .t1) (c .before .before .before .before .before .before .before .before .before .before .before .before .before .before .before .before .before .before .before .before .before .before .before .args .ticket .0) _ _ _ (c .before .before .before .before .before .before .before .before .before .before .before .before .before .before .all-sound .ensures) (c .before .before .before .before .before .before .before .before .before .before .holders-of .ensures) (c .before .before .before .before .before .before .before .before .before .holder .ensures)) _ _ _ (c .before .before .before .of-close .ensures) (c .before .before .if1 .taken)
+
+-- src/close.rt:37:17
+close-from-requires : tie.Need-close-from-requires
+close-from-requires c κs = job-passed _ _ _ _ (sym (c .before .before .before .before .before .of-close .ensures) ∙ c .before .before .before .before .if1 .taken) .some-hold
+
+-- src/close.rt:37:17
+returns : tie.Need-returns
+returns c = close-closed _ _ _ (sym (close-rows (read (c .before .before .before .before .before .before .before .before .before .before .before .before .before .before .before .before .before .before .before .before .before .before .before .before .before .before .args .t1) (c .before .before .before .before .before .before .before .before .before .before .before .before .before .before .before .before .before .before .before .before .before .before .before .before .before .before .args .ticket .0) _ _ _ (c .before .before .before .before .before .before .before .before .before .before .before .before .before .before .before .before .before .all-sound .ensures) (c .before .before .before .before .before .before .before .before .before .before .before .before .before .holders-of .ensures) (c .before .before .before .before .before .before .before .before .before .before .before .before .holder .ensures)) _ _ (c .before .before .before .before .before .before .before .before .all-confirmed .ensures) (c .before .before .before .before .before .before .before .holds .ensures)) ∙ job-passed _ _ _ _ (sym (c .before .before .before .before .before .before .of-close .ensures) ∙ c .before .before .before .before .before .if1 .taken) .none-applies) (read-slot (read (c .before .before .before .before .before .before .before .before .before .before .before .before .before .before .before .before .before .before .before .before .before .before .before .before .before .before .args .t1) (c .before .before .before .before .before .before .before .before .before .before .before .before .before .before .before .before .before .before .before .before .before .before .before .before .before .before .args .ticket .0) _ _ _ (c .before .before .before .before .before .before .before .before .before .before .before .before .before .before .before .before .before .all-sound .ensures) (c .before .before .before .before .before .before .before .before .before .before .before .before .before .holders-of .ensures) (c .before .before .before .before .before .before .before .before .before .before .before .before .holder .ensures))) (sym (c .before .before .may-close .ensures) ∙ c .before .if2 .taken) _ (c .before .before .before .before .before .before .before .before .before .before .before .before .holder .ensures) _ (c .close-from .ensures)
+
+-- src/close.rt:40:25
+with-member-requires : tie.Need-with-member-requires
+with-member-requires c κs = search needs
+
+-- src/close.rt:16:5
+returns-2 : tie.Need-returns-2
+returns-2 c = close-held _ _ _ (sym (close-rows (read (c .before .before .before .before .before .before .before .before .before .before .before .before .before .before .before .before .before .before .before .before .before .before .before .before .before .before .args .t1) (c .before .before .before .before .before .before .before .before .before .before .before .before .before .before .before .before .before .before .before .before .before .before .before .before .before .before .args .ticket .0) _ _ _ (c .before .before .before .before .before .before .before .before .before .before .before .before .before .before .before .before .before .all-sound .ensures) (c .before .before .before .before .before .before .before .before .before .before .before .before .before .holders-of .ensures) (c .before .before .before .before .before .before .before .before .before .before .before .before .holder .ensures)) _ _ (c .before .before .before .before .before .before .before .before .all-confirmed .ensures) (c .before .before .before .before .before .before .before .holds .ensures)) ∙ job-passed _ _ _ _ (sym (c .before .before .before .before .before .before .of-close .ensures) ∙ c .before .before .before .before .before .if1 .taken) .none-applies) (read-slot (read (c .before .before .before .before .before .before .before .before .before .before .before .before .before .before .before .before .before .before .before .before .before .before .before .before .before .before .args .t1) (c .before .before .before .before .before .before .before .before .before .before .before .before .before .before .before .before .before .before .before .before .before .before .before .before .before .before .args .ticket .0) _ _ _ (c .before .before .before .before .before .before .before .before .before .before .before .before .before .before .before .before .before .all-sound .ensures) (c .before .before .before .before .before .before .before .before .before .before .before .before .before .holders-of .ensures) (c .before .before .before .before .before .before .before .before .before .before .before .before .holder .ensures))) (sym (c .before .before .may-close .ensures) ∙ c .before .if2 .left) (job-fits (read (c .before .before .before .before .before .before .before .before .before .before .before .before .before .before .before .before .before .before .before .before .before .before .before .before .before .before .args .t1) (c .before .before .before .before .before .before .before .before .before .before .before .before .before .before .before .before .before .before .before .before .before .before .before .before .before .before .args .ticket .0) _ _ _ (c .before .before .before .before .before .before .before .before .before .before .before .before .before .before .before .before .before .all-sound .ensures) (c .before .before .before .before .before .before .before .before .before .before .before .before .before .holders-of .ensures) (c .before .before .before .before .before .before .before .before .before .before .before .before .holder .ensures)) _ _ _ (c .before .before .before .before .before .before .of-close .ensures) (c .before .before .before .before .before .if1 .taken)) _ (c .with-member .ensures)
+
+-- src/close.rt:16:5
+returns-3 : tie.Need-returns-3
+returns-3 c = close-refused _ _ _ (c .before .of-close .ensures ∙ ap numberOf (close-rows (read (c .before .before .before .before .before .before .before .before .before .before .before .before .before .before .before .before .before .before .before .before .before .args .t1) (c .before .before .before .before .before .before .before .before .before .before .before .before .before .before .before .before .before .before .before .before .before .args .ticket .0) _ _ _ (c .before .before .before .before .before .before .before .before .before .before .before .before .all-sound .ensures) (c .before .before .before .before .before .before .before .before .holders-of .ensures) (c .before .before .before .before .before .before .before .holder .ensures)) _ _ (c .before .before .before .all-confirmed .ensures) (c .before .before .holds .ensures))) (c .if1 .left)
+
+pub close-spec : {M : Type 1} → statement M
+close-spec =
+    tie.close
+    (tie.spec
+    all-sound-requires
+    holders-of-requires
+    holder-requires
+    all-confirmed-requires
+    holds-requires
+    of-close-requires
+    may-close-requires
+    close-from-requires
+    returns
+    with-member-requires
+    returns-2
+    returns-3)

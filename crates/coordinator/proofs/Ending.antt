@@ -1,0 +1,89 @@
+-- What close leaves, in each of the three ways that it ends. Assumes nothing.
+use mathlib.Core.Path.{_≡_, refl, sym, ap, _∙_}
+use mathlib.Core.Bool.{Bool, true, false, not, _||_}
+use mathlib.Core.List.{[]}
+use mathlib.Core.Option.{none}
+use Prim.Native.Nat.{ℕ, _<_}
+use native.Mathlib.Omega.{arith}
+use borrow.Author.Tests.{eqb-false}
+use lib.Dec.{eqb}
+use Rattle.mask.specs.Member.{holds, including, joined, lowest}
+use Rattle.mask.proofs.Change.{joined-below}
+use Rattle.coordinator.specs.declared.Coordinator.{Coordinator}
+use Rattle.coordinator.specs.declared.answers.CloseAnswer.{CloseAnswer}
+use Rattle.coordinator.specs.declared.answers.AfterClose.{AfterClose}
+use Rattle.coordinator.specs.Limits.{jobs}
+use Rattle.coordinator.specs.Views.{inMask, names, confirmed, held}
+use Rattle.coordinator.specs.Holder.{holder}
+use Rattle.coordinator.specs.Refusal.{numberOf, allConfirmed, jobRefusal, closeRefusal}
+use Rattle.coordinator.specs.Change.{markHeld}
+use Rattle.coordinator.specs.Release.{mayClose}
+use Rattle.coordinator.specs.Tables.{mayCloseIn, allConfirmedIn}
+use Rattle.coordinator.specs.Close.{noTickets, closing, afterClosing, closedAt, afterClose}
+use Rattle.coordinator.proofs.Tables.{may-close-is}
+use Rattle.coordinator.proofs.Refusing.{refused, passed, no-row}
+use Rattle.coordinator.proofs.Step.{Read, read-found, read-slot, read-sound, slot-below}
+
+-- ---- refusal number 0: no row applies
+
+module _ (b : Bool) (f : ℕ) (isConfirmed isHeld : Bool) (e : numberOf (jobRefusal b f isConfirmed isHeld) ≡ 0) where
+  pub record Passed : Type 0 where
+    pub none-applies : jobRefusal b f isConfirmed isHeld ≡ none
+    pub some-hold : ¬ (f ≡ 0)
+
+  pub job-passed : Passed
+  unfolding jobRefusal
+  job-passed =
+      let a = passed (record { applies = not b; number = 10 }) _ (λ z. omega arith) e in
+      let c = passed (record { applies = eqb f 0; number = 3 }) _ (λ z. omega arith) (a .2) in
+      let d = passed (record { applies = not isConfirmed; number = 8 }) _ (λ z. omega arith) (c .2) in
+      let g = passed (record { applies = isHeld; number = 9 }) [] (λ z. omega arith) (d .2) in
+      record { none-applies = a .1 ∙ c .1 ∙ d .1 ∙ g .1 ∙ no-row; some-hold = eqb-false f 0 (c .0) }
+
+module _ {s : Coordinator} {t : ℕ} {b : Bool} {f j : ℕ} (r : Read s t b f j) where
+  pub job-fits : (isConfirmed isHeld : Bool) (x : ℕ) → x ≡ numberOf (jobRefusal b f isConfirmed isHeld) → x ≡ 0 → j < jobs
+  job-fits isConfirmed isHeld x e z = slot-below r (job-passed b f isConfirmed isHeld (sym e ∙ z) .some-hold)
+
+  -- the rows that the code goes down are the call's
+  pub close-rows : (isConfirmed isHeld : Bool) → isConfirmed ≡ allConfirmedIn (s .named) (s .confirmed) j → isHeld ≡ holds (s .held) j
+      → jobRefusal b f isConfirmed isHeld ≡ closeRefusal s t
+  unfolding jobRefusal closeRefusal allConfirmedIn allConfirmed names inMask confirmed held
+  close-rows isConfirmed isHeld p q = rw (p, q, read-sound r, read-found r, read-slot r)
+
+-- ---- the three ends
+
+module _ (s : Coordinator) (t : ℕ) where
+  pub close-refused : (r : ℕ) → r ≡ numberOf (closeRefusal s t) → ¬ (r ≡ 0)
+      → _≡_ {A = AfterClose} (record { answer = CloseAnswer.Refused r; tickets = noTickets; state = s }) (afterClose s t)
+  unfolding afterClose
+  close-refused r e n = rw (afterClose, refused (closeRefusal s t) r e n)
+
+  accepted : (j : ℕ) → j ≡ holder s t → closeRefusal s t ≡ none → closedAt s j ≡ afterClose s t
+  unfolding afterClose
+  accepted j h e = rw (afterClose, e, h)
+
+  module _ (j : ℕ) (taken : closeRefusal s t ≡ none) (slot : j ≡ holder s t) where
+    pub close-held : mayCloseIn (s .dependencies) j ≡ false → j < jobs → (held : ℕ) → held ≡ joined jobs (s .held) j
+        → _≡_ {A = AfterClose}
+        (record {
+          answer = CloseAnswer.Held;
+          tickets = noTickets;
+          state = record {
+            tickets = s .tickets;
+            held = held;
+            order = s .order;
+            named = s .named;
+            asked = s .asked;
+            released = s .released;
+            confirmed = s .confirmed;
+            dependencies = s .dependencies;
+            maker = s .maker;
+          };
+        })
+        (afterClose s t)
+    unfolding closedAt markHeld
+    close-held e l held h = rw (← accepted j slot taken, closedAt, ← may-close-is s j, e, h, joined-below jobs (s .held) j l)
+
+    pub close-closed : mayCloseIn (s .dependencies) j ≡ true → (f : ℕ) → j ≡ lowest jobs f → (r : AfterClose) → r ≡ afterClosing (closing s (lowest jobs f)) → r ≡ afterClose s t
+    unfolding closedAt
+    close-closed e f h r c = c ∙ rw (← accepted j slot taken, closedAt, ← may-close-is s j, e, ← h)
