@@ -1,5 +1,9 @@
--- `Seen`: a state is sound where what can be seen of it is. `Marks`, `Release`, `Remove`, `Enter`: each small change keeps that.
+-- `Seen`: a state is sound where what can be seen of it is. `Slots`, `Order`: a view changed at one slot, and the opening order.
+-- `Fresh`, `Marks`, `Release`, `Remove`: the fresh start is sound, and each small change of a sound state leaves a sound state.
 pub mod Seen
-pub mod Marks
+pub mod Slots
+pub mod Order
 pub mod Fresh
+pub mod Marks
 pub mod Release
+pub mod Remove

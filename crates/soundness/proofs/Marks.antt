@@ -19,22 +19,7 @@ use Rattle.effects.proofs.Marks.{shape-asked, shape-confirmed, shape-held, mark
 use Rattle.soundness.specs.SoundView.{Empty, SoundView}
 use Rattle.soundness.specs.Changed.{Changed}
 use Rattle.soundness.proofs.Seen.{seen-sound, changed}
-
--- a mark after one more is made: where it holds, it is that one or was there before
-pub marked : (a j u k : ℕ) (p : Bool) → eqb a j && eqb u k || p ≡ true → ((a ≡ j) × (u ≡ k)) ⊎ (p ≡ true)
-marked a j u k p e = by (or-cases (eqb a j && eqb u k) p e)
-  where
-    by : (eqb a j && eqb u k ≡ true) ⊎ (p ≡ true) → ((a ≡ j) × (u ≡ k)) ⊎ (p ≡ true)
-    by (inl q) = inl (eqb-true a j (and-left (eqb a j) (eqb u k) q), eqb-true u k (and-right (eqb a j) (eqb u k) q))
-    by (inr q) = inr q
-
--- if it holds of the new one, it holds of all
-pub marked-so : (mark : ℕ → ℕ → Bool) (j k a u : ℕ) (p : Bool) → (p ≡ true → mark a u ≡ true) → mark j k ≡ true → eqb a j && eqb u k || p ≡ true → mark a u ≡ true
-marked-so mark j k a u p was new e = ⊎-elim (λ (q : (a ≡ j) × (u ≡ k)). rw (q .0, q .1) new) was (marked a j u k p e)
-
--- a slot that is not the marked one has no new mark
-pub unmarked : (isOpen : ℕ → Bool) (a j u k : ℕ) (p : Bool) → isOpen j ≡ true → isOpen a ≡ false → p ≡ false → eqb a j && eqb u k || p ≡ false
-unmarked isOpen a j u k p o f e = untrue _ (λ q. ⊎-elim (λ (r : (a ≡ j) × (u ≡ k)). both o (ap isOpen (sym (r .0)) ∙ f)) (λ r. both r e) (marked a j u k p q))
+use Rattle.soundness.proofs.Slots.{marked-so, unmarked}
 
 module _ (v : View) (S : SoundView v) (j k : ℕ) (o : v .isOpen j ≡ true) where
   asked-view : v .names j k ≡ true → SoundView (askedAt v j k)

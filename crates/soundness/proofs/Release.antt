@@ -19,7 +19,7 @@ use Rattle.effects.proofs.Release.{shape-release, released-step}
 use Rattle.soundness.specs.SoundView.{Joined, SoundView, NamesOpen}
 use Rattle.soundness.specs.Changed.{Changed}
 use Rattle.soundness.proofs.Seen.{seen-sound, names-open, changed}
-use Rattle.soundness.proofs.Marks.{marked, marked-so, unmarked}
+use Rattle.soundness.proofs.Slots.{marked, marked-so, unmarked}
 
 module _ (v : View) (S : SoundView v) (N : NamesOpen v) (j k : ℕ) (asks : v .asked j k ≡ true) where
   abbrev leads : ℕ → ℕ → ℕ → Bool

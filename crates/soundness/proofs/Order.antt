@@ -1,0 +1,61 @@
+-- The opening order without one place. Assumes nothing.
+use Prim.Native.Nat.{ℕ, suc, _+_, _-_, _<_, _≤_}
+use native.Mathlib.Decide.{decLt}
+use native.Mathlib.Omega.{arith}
+use mathlib.Core.Bool.{Bool, true, false, not, _&&_}
+use mathlib.Core.Path.{_≡_, ap, sym, _∙_}
+use borrow.Author.Tests.{lt-ltb, le-ltb}
+use lib.Dec.{eqb, ltb}
+use Rattle.loops.specs.Sum.{tally}
+use Rattle.soundness.specs.SoundView.{Listing}
+use Rattle.soundness.proofs.Slots.{other, other-so}
+
+-- where place i has come from, once place p is gone
+abbrev moved : ℕ → ℕ → ℕ
+moved p i = i + tally (not (ltb i p))
+
+moved-below : (p i : ℕ) → i < p → moved p i ≡ i
+moved-below p i l = rw (lt-ltb i p l) (omega arith)
+
+moved-after : (p i : ℕ) → p ≤ i → moved p i ≡ suc i
+moved-after p i l = rw (le-ltb i p l) (omega arith)
+
+-- every place but p, each once
+moved-not : (p i : ℕ) → ¬ (moved p i ≡ p)
+moved-not p i e = elim (decLt i p) [ yes l ↦ omega (arith, moved-below p i l) | no l ↦ omega (arith, moved-after p i (omega arith)) ]
+
+moved-once : (p i k : ℕ) → moved p i ≡ moved p k → i ≡ k
+moved-once p i k e = by (decLt i p) (decLt k p)
+  where
+    by : Dec (i < p) → Dec (k < p) → i ≡ k
+    by (yes l) (yes m) = sym (moved-below p i l) ∙ e ∙ moved-below p k m
+    by (yes l) (no m) = absurd (omega (arith, moved-below p i l, moved-after p k (omega arith)))
+    by (no l) (yes m) = absurd (omega (arith, moved-after p i (omega arith), moved-below p k m))
+    by (no l) (no m) = omega (arith, moved-after p i (omega arith), moved-after p k (omega arith))
+
+moved-each : (p i : ℕ) → ¬ (i ≡ p) → (k : ℕ) × (k ≤ i) × (moved p k ≡ i) × (p ≤ i → k + 1 ≡ i)
+moved-each p i d = elim (decLt i p) [
+  | yes l ↦ (i, omega arith, moved-below p i l, λ m. absurd (omega arith))
+  | no l ↦ (i - 1, omega arith, moved-after p (i - 1) (omega arith) ∙ omega arith, λ m. omega arith)
+]
+
+moved-within : (p i n : ℕ) → i < n - 1 → moved p i < n
+moved-within p i n l = elim (decLt i p) [ yes m ↦ omega (arith, moved-below p i m) | no m ↦ omega (arith, moved-after p i (omega arith)) ]
+
+pub removed-listing : (isOpen : ℕ → Bool) (count : ℕ) (opened : ℕ → ℕ) (j p : ℕ) → Listing isOpen count opened → p < count → opened p ≡ j
+    → Listing (λ a. not (eqb a j) && isOpen a) (count - 1) (λ i. opened (moved p i))
+removed-listing isOpen count opened j p L inside at = record {
+  only = λ i l.
+      let m = moved-within p i count l in
+      other-so (opened (moved p i)) j (isOpen (opened (moved p i))) (λ e. moved-not p i (L .once (moved p i) p m inside (e ∙ sym at))) (L .only (moved p i) m);
+  once = λ i k l m e. moved-once p i k (L .once (moved p i) (moved p k) (moved-within p i count l) (moved-within p k count m) e);
+  each = λ a e.
+      let (d, o) = other a j (isOpen a) e in
+      let (i, l, q) = L .each a o in
+      stands a i l q (moved-each p i (λ x. d (sym q ∙ ap opened x ∙ at)));
+  end = λ i l. ap opened (moved-after p i (omega arith)) ∙ L .end (suc i) (omega arith);
+}
+  where
+    stands : (a i : ℕ) → i < count → opened i ≡ a → (k : ℕ) × (k ≤ i) × (moved p k ≡ i) × (p ≤ i → k + 1 ≡ i)
+        → (k : ℕ) × (k < count - 1) × (opened (moved p k) ≡ a)
+    stands a i l q (k, m, r, s) = (k, elim (decLt i p) [ yes x ↦ omega arith | no x ↦ omega (arith, s (omega arith)) ], ap opened r ∙ q)
