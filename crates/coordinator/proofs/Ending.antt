@@ -22,7 +22,7 @@ use Rattle.coordinator.specs.Tables.{mayCloseIn, allConfirmedIn}
 use Rattle.coordinator.specs.Close.{noTickets, closing, afterClosing, closedAt, afterClose}
 use Rattle.coordinator.proofs.Tables.{may-close-is}
 use Rattle.coordinator.proofs.Refusing.{refused, passed, no-row}
-use Rattle.coordinator.proofs.Step.{Read, read-found, read-slot, read-sound, slot-below}
+use Rattle.coordinator.proofs.Step.{Read, slot-below}
 
 -- ---- refusal number 0: no row applies
 
@@ -48,7 +48,7 @@ module _ {s : Coordinator} {t : ℕ} {b : Bool} {f j : ℕ} (r : Read s t b f j)
   pub close-rows : (isConfirmed isHeld : Bool) → isConfirmed ≡ allConfirmedIn (s .named) (s .confirmed) j → isHeld ≡ holds (s .held) j
       → jobRefusal b f isConfirmed isHeld ≡ closeRefusal s t
   unfolding jobRefusal closeRefusal allConfirmedIn allConfirmed names inMask confirmed held
-  close-rows isConfirmed isHeld p q = rw (p, q, read-sound r, read-found r, read-slot r)
+  close-rows isConfirmed isHeld p q = rw (p, q, r .soundness, r .found, r .slot)
 
 -- ---- the three ends
 

@@ -11,3 +11,4 @@ pub mod Testing
 pub mod Refusing
 pub mod Step
 pub mod Asking
+pub mod Confirming

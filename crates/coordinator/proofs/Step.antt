@@ -1,5 +1,5 @@
--- What ask and confirm read of a state before they change it. Assumes nothing.
-use mathlib.Core.Path.{_≡_, refl, sym, ap, _∙_}
+-- What ask and confirm read of a state before they change it, and what refusal number 0 tells then. Assumes nothing.
+use mathlib.Core.Path.{_≡_, refl, sym, _∙_}
 use mathlib.Core.Bool.{Bool, not, _||_}
 use mathlib.Core.List.{[]}
 use mathlib.Core.Option.{none}
@@ -13,43 +13,37 @@ use Rattle.mask.proofs.Gather.{gathered-lt}
 use Rattle.mask.proofs.Lowest.{trailing-lowest}
 use Rattle.coordinator.specs.declared.Coordinator.{Coordinator}
 use Rattle.coordinator.specs.Limits.{jobs, databases}
-use Rattle.coordinator.specs.Views.{entry, openSlots, ticket, opened, inMask, asked, released, confirmed}
+use Rattle.coordinator.specs.Views.{entry, openSlots, ticket, inMask, asked, released, confirmed}
 use Rattle.coordinator.specs.Holder.{sharers, holders, holder}
-use Rattle.coordinator.specs.Test.{sound, ticketSound, placeSound, listed, databaseSound}
+use Rattle.coordinator.specs.Test.{sound}
 use Rattle.coordinator.specs.Refusal.{numberOf, stepRefusal, askRefusal, confirmRefusal}
 use Rattle.coordinator.specs.Tables.{openIn, holdersIn}
 use Rattle.coordinator.specs.Parts.{tables}
-use Rattle.coordinator.proofs.Tables.{holders-are}
+use Rattle.coordinator.proofs.Tables.{holders-are, holder-is}
+use Rattle.coordinator.proofs.Testing.{sound-of}
 use Rattle.coordinator.proofs.Refusing.{passed, no-row}
 
--- whether the state is sound, the slots whose job holds the ticket, and the lowest of them
+-- whether the state is sound, the slots whose job holds the ticket, and the one of them that is meant
 pub record Read (s : Coordinator) (t : ℕ) (b : Bool) (f j : ℕ) : Type 0 where
-  pub soundness : b ≡ sound (tables (s .tickets) (s .held) (s .order) (s .named) (s .asked) (s .released) (s .confirmed) (s .dependencies))
-  pub found : f ≡ holdersIn (s .tickets) (openIn (s .named)) t
-  pub slot : j ≡ lowest jobs f
+  pub soundness : b ≡ sound s
+  pub found : f ≡ holders s t
+  pub slot : j ≡ holder s t
 
-pub read : (s : Coordinator) (t : ℕ) (b : Bool) (f j : ℕ) → b ≡ sound (tables (s .tickets) (s .held) (s .order) (s .named) (s .asked) (s .released) (s .confirmed) (s .dependencies))
+pub read : (s : Coordinator) (t : ℕ) (b : Bool) (f j : ℕ)
+    → b ≡ sound (tables (s .tickets) (s .held) (s .order) (s .named) (s .asked) (s .released) (s .confirmed) (s .dependencies))
     → f ≡ holdersIn (s .tickets) (openIn (s .named)) t → j ≡ lowest jobs f → Read s t b f j
-read s t b f j p q r = record { soundness = p; found = q; slot = r }
+read s t b f j p q r = record {
+  soundness = sound-of s b p;
+  found = holders-are s (openIn (s .named)) t f refl q;
+  slot = holder-is s (openIn (s .named)) t f j refl q r;
+}
 
-sound-tables : (s : Coordinator) → sound (tables (s .tickets) (s .held) (s .order) (s .named) (s .asked) (s .released) (s .confirmed) (s .dependencies)) ≡ sound s
-unfolding sound openSlots ticketSound placeSound databaseSound sharers ticket opened listed
-sound-tables s = refl
-
-holders-lt : (s : Coordinator) (t : ℕ) → holders s t < 2 ^ jobs
-unfolding holders sharers
-holders-lt s t = omega (arith, and-le-l (sharers s t) (openSlots s), gathered-lt (λ j. eqb (ticket s j) t) jobs)
-
-module _ {s : Coordinator} {t : ℕ} {b : Bool} {f j : ℕ} (r : Read s t b f j) where
-  pub read-found : f ≡ holders s t
-  read-found = holders-are s (openIn (s .named)) t f refl (r .found)
-
-  pub read-slot : j ≡ holder s t
-  unfolding holder
-  read-slot = r .slot ∙ ap (lowest jobs) read-found
-
-  pub read-sound : b ≡ sound s
-  read-sound = r .soundness ∙ sound-tables s
+-- a ticket that some open job holds has a slot
+holder-below : (s : Coordinator) (t : ℕ) → ¬ (holders s t ≡ 0) → holder s t < jobs
+unfolding holder holders sharers
+holder-below s t n =
+    let l : holders s t < 2 ^ jobs = omega (arith, and-le-l (sharers s t) (openSlots s), gathered-lt (λ j. eqb (ticket s j) t) jobs) in
+    trailing-lowest jobs (holders s t) (omega arith) l .within
 
 -- ---- refusal number 0: no row applies
 
@@ -71,7 +65,7 @@ module _ (b : Bool) (f k : ℕ) (names applies : Bool) (m : ℕ) (n : ¬ (m ≡ 
 
 module _ {s : Coordinator} {t : ℕ} {b : Bool} {f j : ℕ} (r : Read s t b f j) where
   pub slot-below : ¬ (f ≡ 0) → j < jobs
-  slot-below h = rw (r .slot) (trailing-lowest jobs f (omega arith) (rw (read-found r) (holders-lt s t)) .within)
+  slot-below n = rw (r .slot) (holder-below s t (λ q. n (r .found ∙ q)))
 
   -- what changing the tables asks for
   pub step-fits : (k : ℕ) (names applies : Bool) (m x : ℕ) → ¬ (m ≡ 0) → x ≡ numberOf (stepRefusal b f k names applies m) → x ≡ 0 → (k < databases) × (j < jobs)
@@ -81,9 +75,9 @@ module _ {s : Coordinator} {t : ℕ} {b : Bool} {f j : ℕ} (r : Read s t b f j)
   pub ask-rows : (k : ℕ) (names applies : Bool) → names ≡ holds (entry (s .named) k) j → applies ≡ holds (entry (s .asked) k) j
       → stepRefusal b f k names applies 6 ≡ askRefusal s t k
   unfolding stepRefusal askRefusal inMask asked
-  ask-rows k names applies p q = rw (p, q, read-sound r, read-found r, read-slot r)
+  ask-rows k names applies p q = rw (p, q, r .soundness, r .found, r .slot)
 
   pub confirm-rows : (k : ℕ) (names applies : Bool) → names ≡ holds (entry (s .named) k) j
       → applies ≡ not (holds (entry (s .released) k) j) || holds (entry (s .confirmed) k) j → stepRefusal b f k names applies 7 ≡ confirmRefusal s t k
   unfolding stepRefusal confirmRefusal inMask released confirmed
-  confirm-rows k names applies p q = rw (p, q, read-sound r, read-found r, read-slot r)
+  confirm-rows k names applies p q = rw (p, q, r .soundness, r .found, r .slot)

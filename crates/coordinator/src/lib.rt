@@ -3,6 +3,7 @@ mod answers;
 mod ask;
 mod cascade;
 mod close;
+mod confirm;
 mod count;
 mod enter;
 mod holder;

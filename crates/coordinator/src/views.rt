@@ -2,10 +2,12 @@
 use crate::Coordinator;
 use numbers::Database;
 use numbers::Slot;
+use numbers::Ticket;
 ghost use mathlib.Core.Path.{_≡_};
+ghost use Prim.Native.Nat.{ℕ, _<_};
 ghost use lib.ListN.{length};
 ghost use Rattle.mask.specs.Member.{holds};
-ghost use Rattle.coordinator.specs.Limits.{databases};
+ghost use Rattle.coordinator.specs.Limits.{jobs, databases};
 ghost use Rattle.coordinator.specs.Views.{entry};
 ghost use Rattle.coordinator.specs.Tables.{openIn};
 
@@ -39,4 +41,13 @@ pub(crate) fn holds_at(sets: &[u32; Coordinator::DATABASES], k: Database, j: Slo
     ensures { λ r. ⌜ r ≡ holds (entry (now (sets .entry)) (k .0)) (j .0) ⌝ }
 {
     mask::slots::holds(at(sets, k), j.0)
+}
+
+// The ticket of the job in slot j.
+pub(crate) fn ticket(tickets: &[u16; Coordinator::JOBS], j: Slot) -> Ticket
+    requires { ⌜ j .0 < jobs ⌝ }
+    ensures { λ r. ⌜ r .0 ≡ entry (now (tickets .entry)) (j .0) ⌝ }
+{
+    let i = j.0 as usize;
+    Ticket(tickets[i])
 }

@@ -1,7 +1,7 @@
 use mathlib.Core.Path.{sym, ap, _∙_}
 use native.Mathlib.Omega.{arith}
 use Rattle.coordinator.specs.Refusal.{numberOf}
-use Rattle.coordinator.proofs.Step.{read, read-slot, step-passed, step-fits, ask-rows}
+use Rattle.coordinator.proofs.Step.{read, step-passed, step-fits, ask-rows}
 use Rattle.coordinator.proofs.Asking.{ask-refused, ask-held, ask-released}
 use borrow.Author.Needs.{needs}
 use Rattle.coordinator.proofs.Coordinator.ask.Statement.{statement}
@@ -64,11 +64,11 @@ lead-to-requires c κs = step-fits (read (c .before .before .before .before .bef
 
 -- src/ask.rt:17:5
 returns : tie.Need-returns
-returns c = ask-released _ _ _ _ (sym (ask-rows (read (c .before .before .before .before .before .before .before .before .before .before .before .before .before .before .before .before .before .before .before .before .before .before .before .before .before .before .before .before .before .before .before .before .before .before .before .before .before .args .t1) (c .before .before .before .before .before .before .before .before .before .before .before .before .before .before .before .before .before .before .before .before .before .before .before .before .before .before .before .before .before .before .before .before .before .before .before .before .before .args .ticket .0) _ _ _ (c .before .before .before .before .before .before .before .before .before .before .before .before .before .before .before .before .before .before .before .before .before .before .before .before .before .before .before .before .all-sound .ensures) (c .before .before .before .before .before .before .before .before .before .before .before .before .before .before .before .before .before .before .before .before .before .before .before .before .holders-of .ensures) (c .before .before .before .before .before .before .before .before .before .before .before .before .before .before .before .before .before .before .before .before .before .before .before .holder .ensures)) (c .before .before .before .before .before .before .before .before .before .before .before .before .before .before .before .before .before .before .before .before .before .before .before .before .before .before .before .before .before .before .before .before .before .before .before .before .before .args .database .0) _ _ (c .before .before .before .before .before .before .before .before .before .before .before .before .before .before .before .before .before .before .before .before .holds-at .ensures) (c .before .before .before .before .before .before .before .before .before .before .before .before .before .before .before .before .before .holds-at2 .ensures)) ∙ step-passed _ _ _ _ _ 6 (λ z. omega arith) (sym (c .before .before .before .before .before .before .before .before .before .before .before .before .before .before .before .before .of-step .ensures) ∙ c .before .before .before .before .before .before .before .before .before .before .before .before .before .before .before .if1 .taken) .none-applies) (read-slot (read (c .before .before .before .before .before .before .before .before .before .before .before .before .before .before .before .before .before .before .before .before .before .before .before .before .before .before .before .before .before .before .before .before .before .before .before .before .before .args .t1) (c .before .before .before .before .before .before .before .before .before .before .before .before .before .before .before .before .before .before .before .before .before .before .before .before .before .before .before .before .before .before .before .before .before .before .before .before .before .args .ticket .0) _ _ _ (c .before .before .before .before .before .before .before .before .before .before .before .before .before .before .before .before .before .before .before .before .before .before .before .before .before .before .before .before .all-sound .ensures) (c .before .before .before .before .before .before .before .before .before .before .before .before .before .before .before .before .before .before .before .before .before .before .before .before .holders-of .ensures) (c .before .before .before .before .before .before .before .before .before .before .before .before .before .before .before .before .before .before .before .before .before .before .before .holder .ensures))) _ (c .before .before .before .before .before .before .before .before .before .before .before .before .before .mark .ensures) (sym (c .before .before .before .before .before .before .before .before .before .may-go .ensures) ∙ c .before .before .before .before .before .before .before .before .if2 .taken) _ (c .before .before .before .before .before .before .mark2 .ensures) _ (c .before .before .waiting .ensures) _ (c .lead-to .ensures)
+returns c = ask-released _ _ _ _ (sym (ask-rows (read (c .before .before .before .before .before .before .before .before .before .before .before .before .before .before .before .before .before .before .before .before .before .before .before .before .before .before .before .before .before .before .before .before .before .before .before .before .before .args .t1) (c .before .before .before .before .before .before .before .before .before .before .before .before .before .before .before .before .before .before .before .before .before .before .before .before .before .before .before .before .before .before .before .before .before .before .before .before .before .args .ticket .0) _ _ _ (c .before .before .before .before .before .before .before .before .before .before .before .before .before .before .before .before .before .before .before .before .before .before .before .before .before .before .before .before .all-sound .ensures) (c .before .before .before .before .before .before .before .before .before .before .before .before .before .before .before .before .before .before .before .before .before .before .before .before .holders-of .ensures) (c .before .before .before .before .before .before .before .before .before .before .before .before .before .before .before .before .before .before .before .before .before .before .before .holder .ensures)) (c .before .before .before .before .before .before .before .before .before .before .before .before .before .before .before .before .before .before .before .before .before .before .before .before .before .before .before .before .before .before .before .before .before .before .before .before .before .args .database .0) _ _ (c .before .before .before .before .before .before .before .before .before .before .before .before .before .before .before .before .before .before .before .before .holds-at .ensures) (c .before .before .before .before .before .before .before .before .before .before .before .before .before .before .before .before .before .holds-at2 .ensures)) ∙ step-passed _ _ _ _ _ 6 (λ z. omega arith) (sym (c .before .before .before .before .before .before .before .before .before .before .before .before .before .before .before .before .of-step .ensures) ∙ c .before .before .before .before .before .before .before .before .before .before .before .before .before .before .before .if1 .taken) .none-applies) (read (c .before .before .before .before .before .before .before .before .before .before .before .before .before .before .before .before .before .before .before .before .before .before .before .before .before .before .before .before .before .before .before .before .before .before .before .before .before .args .t1) (c .before .before .before .before .before .before .before .before .before .before .before .before .before .before .before .before .before .before .before .before .before .before .before .before .before .before .before .before .before .before .before .before .before .before .before .before .before .args .ticket .0) _ _ _ (c .before .before .before .before .before .before .before .before .before .before .before .before .before .before .before .before .before .before .before .before .before .before .before .before .before .before .before .before .all-sound .ensures) (c .before .before .before .before .before .before .before .before .before .before .before .before .before .before .before .before .before .before .before .before .before .before .before .before .holders-of .ensures) (c .before .before .before .before .before .before .before .before .before .before .before .before .before .before .before .before .before .before .before .before .before .before .before .holder .ensures) .slot) _ (c .before .before .before .before .before .before .before .before .before .before .before .before .before .mark .ensures) (sym (c .before .before .before .before .before .before .before .before .before .may-go .ensures) ∙ c .before .before .before .before .before .before .before .before .if2 .taken) _ (c .before .before .before .before .before .before .mark2 .ensures) _ (c .before .before .waiting .ensures) _ (c .lead-to .ensures)
 
 -- src/ask.rt:17:5
 returns-2 : tie.Need-returns-2
-returns-2 c = ask-held _ _ _ _ (sym (ask-rows (read (c .before .before .before .before .before .before .before .before .before .before .before .before .before .before .before .before .before .before .before .before .before .before .before .before .before .before .before .before .before .args .t1) (c .before .before .before .before .before .before .before .before .before .before .before .before .before .before .before .before .before .before .before .before .before .before .before .before .before .before .before .before .before .args .ticket .0) _ _ _ (c .before .before .before .before .before .before .before .before .before .before .before .before .before .before .before .before .before .before .before .before .all-sound .ensures) (c .before .before .before .before .before .before .before .before .before .before .before .before .before .before .before .before .holders-of .ensures) (c .before .before .before .before .before .before .before .before .before .before .before .before .before .before .before .holder .ensures)) (c .before .before .before .before .before .before .before .before .before .before .before .before .before .before .before .before .before .before .before .before .before .before .before .before .before .before .before .before .before .args .database .0) _ _ (c .before .before .before .before .before .before .before .before .before .before .before .before .holds-at .ensures) (c .before .before .before .before .before .before .before .before .before .holds-at2 .ensures)) ∙ step-passed _ _ _ _ _ 6 (λ z. omega arith) (sym (c .before .before .before .before .before .before .before .before .of-step .ensures) ∙ c .before .before .before .before .before .before .before .if1 .taken) .none-applies) (read-slot (read (c .before .before .before .before .before .before .before .before .before .before .before .before .before .before .before .before .before .before .before .before .before .before .before .before .before .before .before .before .before .args .t1) (c .before .before .before .before .before .before .before .before .before .before .before .before .before .before .before .before .before .before .before .before .before .before .before .before .before .before .before .before .before .args .ticket .0) _ _ _ (c .before .before .before .before .before .before .before .before .before .before .before .before .before .before .before .before .before .before .before .before .all-sound .ensures) (c .before .before .before .before .before .before .before .before .before .before .before .before .before .before .before .before .holders-of .ensures) (c .before .before .before .before .before .before .before .before .before .before .before .before .before .before .before .holder .ensures))) _ (c .before .before .before .before .before .mark .ensures) (sym (c .before .may-go .ensures) ∙ c .if2 .left)
+returns-2 c = ask-held _ _ _ _ (sym (ask-rows (read (c .before .before .before .before .before .before .before .before .before .before .before .before .before .before .before .before .before .before .before .before .before .before .before .before .before .before .before .before .before .args .t1) (c .before .before .before .before .before .before .before .before .before .before .before .before .before .before .before .before .before .before .before .before .before .before .before .before .before .before .before .before .before .args .ticket .0) _ _ _ (c .before .before .before .before .before .before .before .before .before .before .before .before .before .before .before .before .before .before .before .before .all-sound .ensures) (c .before .before .before .before .before .before .before .before .before .before .before .before .before .before .before .before .holders-of .ensures) (c .before .before .before .before .before .before .before .before .before .before .before .before .before .before .before .holder .ensures)) (c .before .before .before .before .before .before .before .before .before .before .before .before .before .before .before .before .before .before .before .before .before .before .before .before .before .before .before .before .before .args .database .0) _ _ (c .before .before .before .before .before .before .before .before .before .before .before .before .holds-at .ensures) (c .before .before .before .before .before .before .before .before .before .holds-at2 .ensures)) ∙ step-passed _ _ _ _ _ 6 (λ z. omega arith) (sym (c .before .before .before .before .before .before .before .before .of-step .ensures) ∙ c .before .before .before .before .before .before .before .if1 .taken) .none-applies) (read (c .before .before .before .before .before .before .before .before .before .before .before .before .before .before .before .before .before .before .before .before .before .before .before .before .before .before .before .before .before .args .t1) (c .before .before .before .before .before .before .before .before .before .before .before .before .before .before .before .before .before .before .before .before .before .before .before .before .before .before .before .before .before .args .ticket .0) _ _ _ (c .before .before .before .before .before .before .before .before .before .before .before .before .before .before .before .before .before .before .before .before .all-sound .ensures) (c .before .before .before .before .before .before .before .before .before .before .before .before .before .before .before .before .holders-of .ensures) (c .before .before .before .before .before .before .before .before .before .before .before .before .before .before .before .holder .ensures) .slot) _ (c .before .before .before .before .before .mark .ensures) (sym (c .before .may-go .ensures) ∙ c .if2 .left)
 
 -- src/ask.rt:17:5
 returns-3 : tie.Need-returns-3

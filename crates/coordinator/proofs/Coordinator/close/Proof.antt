@@ -1,6 +1,6 @@
 use mathlib.Core.Path.{sym, ap, _∙_}
 use Rattle.coordinator.specs.Refusal.{numberOf}
-use Rattle.coordinator.proofs.Step.{read, read-slot}
+use Rattle.coordinator.proofs.Step.{read}
 use Rattle.coordinator.proofs.Ending.{job-passed, job-fits, close-rows, close-refused, close-held, close-closed}
 use borrow.Author.Needs.{needs}
 use Rattle.coordinator.proofs.Coordinator.close.Statement.{statement}
@@ -51,7 +51,7 @@ close-from-requires c κs = job-passed _ _ _ _ (sym (c .before .before .before .
 
 -- src/close.rt:37:17
 returns : tie.Need-returns
-returns c = close-closed _ _ _ (sym (close-rows (read (c .before .before .before .before .before .before .before .before .before .before .before .before .before .before .before .before .before .before .before .before .before .before .before .before .before .before .args .t1) (c .before .before .before .before .before .before .before .before .before .before .before .before .before .before .before .before .before .before .before .before .before .before .before .before .before .before .args .ticket .0) _ _ _ (c .before .before .before .before .before .before .before .before .before .before .before .before .before .before .before .before .before .all-sound .ensures) (c .before .before .before .before .before .before .before .before .before .before .before .before .before .holders-of .ensures) (c .before .before .before .before .before .before .before .before .before .before .before .before .holder .ensures)) _ _ (c .before .before .before .before .before .before .before .before .all-confirmed .ensures) (c .before .before .before .before .before .before .before .holds .ensures)) ∙ job-passed _ _ _ _ (sym (c .before .before .before .before .before .before .of-close .ensures) ∙ c .before .before .before .before .before .if1 .taken) .none-applies) (read-slot (read (c .before .before .before .before .before .before .before .before .before .before .before .before .before .before .before .before .before .before .before .before .before .before .before .before .before .before .args .t1) (c .before .before .before .before .before .before .before .before .before .before .before .before .before .before .before .before .before .before .before .before .before .before .before .before .before .before .args .ticket .0) _ _ _ (c .before .before .before .before .before .before .before .before .before .before .before .before .before .before .before .before .before .all-sound .ensures) (c .before .before .before .before .before .before .before .before .before .before .before .before .before .holders-of .ensures) (c .before .before .before .before .before .before .before .before .before .before .before .before .holder .ensures))) (sym (c .before .before .may-close .ensures) ∙ c .before .if2 .taken) _ (c .before .before .before .before .before .before .before .before .before .before .before .before .holder .ensures) _ (c .close-from .ensures)
+returns c = close-closed _ _ _ (sym (close-rows (read (c .before .before .before .before .before .before .before .before .before .before .before .before .before .before .before .before .before .before .before .before .before .before .before .before .before .before .args .t1) (c .before .before .before .before .before .before .before .before .before .before .before .before .before .before .before .before .before .before .before .before .before .before .before .before .before .before .args .ticket .0) _ _ _ (c .before .before .before .before .before .before .before .before .before .before .before .before .before .before .before .before .before .all-sound .ensures) (c .before .before .before .before .before .before .before .before .before .before .before .before .before .holders-of .ensures) (c .before .before .before .before .before .before .before .before .before .before .before .before .holder .ensures)) _ _ (c .before .before .before .before .before .before .before .before .all-confirmed .ensures) (c .before .before .before .before .before .before .before .holds .ensures)) ∙ job-passed _ _ _ _ (sym (c .before .before .before .before .before .before .of-close .ensures) ∙ c .before .before .before .before .before .if1 .taken) .none-applies) (read (c .before .before .before .before .before .before .before .before .before .before .before .before .before .before .before .before .before .before .before .before .before .before .before .before .before .before .args .t1) (c .before .before .before .before .before .before .before .before .before .before .before .before .before .before .before .before .before .before .before .before .before .before .before .before .before .before .args .ticket .0) _ _ _ (c .before .before .before .before .before .before .before .before .before .before .before .before .before .before .before .before .before .all-sound .ensures) (c .before .before .before .before .before .before .before .before .before .before .before .before .before .holders-of .ensures) (c .before .before .before .before .before .before .before .before .before .before .before .before .holder .ensures) .slot) (sym (c .before .before .may-close .ensures) ∙ c .before .if2 .taken) _ (c .before .before .before .before .before .before .before .before .before .before .before .before .holder .ensures) _ (c .close-from .ensures)
 
 -- src/close.rt:40:25
 with-member-requires : tie.Need-with-member-requires
@@ -59,7 +59,7 @@ with-member-requires c κs = search needs
 
 -- src/close.rt:16:5
 returns-2 : tie.Need-returns-2
-returns-2 c = close-held _ _ _ (sym (close-rows (read (c .before .before .before .before .before .before .before .before .before .before .before .before .before .before .before .before .before .before .before .before .before .before .before .before .before .before .args .t1) (c .before .before .before .before .before .before .before .before .before .before .before .before .before .before .before .before .before .before .before .before .before .before .before .before .before .before .args .ticket .0) _ _ _ (c .before .before .before .before .before .before .before .before .before .before .before .before .before .before .before .before .before .all-sound .ensures) (c .before .before .before .before .before .before .before .before .before .before .before .before .before .holders-of .ensures) (c .before .before .before .before .before .before .before .before .before .before .before .before .holder .ensures)) _ _ (c .before .before .before .before .before .before .before .before .all-confirmed .ensures) (c .before .before .before .before .before .before .before .holds .ensures)) ∙ job-passed _ _ _ _ (sym (c .before .before .before .before .before .before .of-close .ensures) ∙ c .before .before .before .before .before .if1 .taken) .none-applies) (read-slot (read (c .before .before .before .before .before .before .before .before .before .before .before .before .before .before .before .before .before .before .before .before .before .before .before .before .before .before .args .t1) (c .before .before .before .before .before .before .before .before .before .before .before .before .before .before .before .before .before .before .before .before .before .before .before .before .before .before .args .ticket .0) _ _ _ (c .before .before .before .before .before .before .before .before .before .before .before .before .before .before .before .before .before .all-sound .ensures) (c .before .before .before .before .before .before .before .before .before .before .before .before .before .holders-of .ensures) (c .before .before .before .before .before .before .before .before .before .before .before .before .holder .ensures))) (sym (c .before .before .may-close .ensures) ∙ c .before .if2 .left) (job-fits (read (c .before .before .before .before .before .before .before .before .before .before .before .before .before .before .before .before .before .before .before .before .before .before .before .before .before .before .args .t1) (c .before .before .before .before .before .before .before .before .before .before .before .before .before .before .before .before .before .before .before .before .before .before .before .before .before .before .args .ticket .0) _ _ _ (c .before .before .before .before .before .before .before .before .before .before .before .before .before .before .before .before .before .all-sound .ensures) (c .before .before .before .before .before .before .before .before .before .before .before .before .before .holders-of .ensures) (c .before .before .before .before .before .before .before .before .before .before .before .before .holder .ensures)) _ _ _ (c .before .before .before .before .before .before .of-close .ensures) (c .before .before .before .before .before .if1 .taken)) _ (c .with-member .ensures)
+returns-2 c = close-held _ _ _ (sym (close-rows (read (c .before .before .before .before .before .before .before .before .before .before .before .before .before .before .before .before .before .before .before .before .before .before .before .before .before .before .args .t1) (c .before .before .before .before .before .before .before .before .before .before .before .before .before .before .before .before .before .before .before .before .before .before .before .before .before .before .args .ticket .0) _ _ _ (c .before .before .before .before .before .before .before .before .before .before .before .before .before .before .before .before .before .all-sound .ensures) (c .before .before .before .before .before .before .before .before .before .before .before .before .before .holders-of .ensures) (c .before .before .before .before .before .before .before .before .before .before .before .before .holder .ensures)) _ _ (c .before .before .before .before .before .before .before .before .all-confirmed .ensures) (c .before .before .before .before .before .before .before .holds .ensures)) ∙ job-passed _ _ _ _ (sym (c .before .before .before .before .before .before .of-close .ensures) ∙ c .before .before .before .before .before .if1 .taken) .none-applies) (read (c .before .before .before .before .before .before .before .before .before .before .before .before .before .before .before .before .before .before .before .before .before .before .before .before .before .before .args .t1) (c .before .before .before .before .before .before .before .before .before .before .before .before .before .before .before .before .before .before .before .before .before .before .before .before .before .before .args .ticket .0) _ _ _ (c .before .before .before .before .before .before .before .before .before .before .before .before .before .before .before .before .before .all-sound .ensures) (c .before .before .before .before .before .before .before .before .before .before .before .before .before .holders-of .ensures) (c .before .before .before .before .before .before .before .before .before .before .before .before .holder .ensures) .slot) (sym (c .before .before .may-close .ensures) ∙ c .before .if2 .left) (job-fits (read (c .before .before .before .before .before .before .before .before .before .before .before .before .before .before .before .before .before .before .before .before .before .before .before .before .before .before .args .t1) (c .before .before .before .before .before .before .before .before .before .before .before .before .before .before .before .before .before .before .before .before .before .before .before .before .before .before .args .ticket .0) _ _ _ (c .before .before .before .before .before .before .before .before .before .before .before .before .before .before .before .before .before .all-sound .ensures) (c .before .before .before .before .before .before .before .before .before .before .before .before .before .holders-of .ensures) (c .before .before .before .before .before .before .before .before .before .before .before .before .holder .ensures)) _ _ _ (c .before .before .before .before .before .before .of-close .ensures) (c .before .before .before .before .before .if1 .taken)) _ (c .with-member .ensures)
 
 -- src/close.rt:16:5
 returns-3 : tie.Need-returns-3
