@@ -1,5 +1,5 @@
 -- The state: `Limits`, `Fresh`, `Views`, `Shape`. Which states are sound: `Sound`, and its test, `Test`; its parts over the tables: `Parts`. What the code reads of it: `Tables`. The refusals: `Holder`, `Refusal`.
--- The calls: `Change`, `Release`, `Open`, `Ask`, `Confirm`, `Close`; what they answer in document 01's numbers: `Answer`, `Call`. The job sheet: `Sheet`.
+-- The calls: `Change`, `Release`, `Open` (with `Bound`, how many moves it can take), `Ask`, `Confirm`, `Close`; what they answer in document 01's numbers: `Answer`, `Call`. The job sheet: `Sheet`.
 pub mod Limits
 pub mod Fresh
 pub mod Views
@@ -12,6 +12,7 @@ pub mod Tables
 pub mod Refusal
 pub mod Change
 pub mod Release
+pub mod Bound
 pub mod Open
 pub mod Ask
 pub mod Confirm

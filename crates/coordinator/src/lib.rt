@@ -1,6 +1,7 @@
 // The part between: decides for each step of each job whether it goes now or is held.
 mod answers;
 mod ask;
+mod bound;
 mod cascade;
 mod close;
 mod confirm;
