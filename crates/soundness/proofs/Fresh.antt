@@ -1,5 +1,5 @@
 -- The fresh start is sound. Assumes nothing.
-use Prim.Native.Nat.{ℕ, _^_, _<_, _≤_}
+use Prim.Native.Nat.{ℕ, _^_, _<_}
 use native.Mathlib.Nat.{not-suc-le-zero}
 use mathlib.Core.Path.{refl}
 use Rattle.loops.proofs.Tests.{both}

@@ -1,11 +1,11 @@
 -- A step asked or confirmed, a close held: what was sound is sound. Assumes nothing.
 use Prim.Native.Nat.{ℕ, _<_}
-use mathlib.Core.Bool.{Bool, true, false, _&&_, _||_}
-use mathlib.Core.Logic.{_⊎_, inl, inr, ⊎-elim}
-use mathlib.Core.Path.{_≡_, refl, ap, sym, _∙_}
+use mathlib.Core.Bool.{true, false, _&&_}
+use mathlib.Core.Logic.{_⊎_, inl, inr}
+use mathlib.Core.Path.{_≡_, ap, sym, _∙_}
 use borrow.Author.Tests.{eqb-true}
 use lib.Dec.{eqb}
-use Rattle.loops.proofs.Tests.{both, and-left, and-right, or-cases, or-right, or-false, untrue}
+use Rattle.loops.proofs.Tests.{both, or-cases, or-right, or-false, untrue}
 use Rattle.coordinator.specs.declared.Coordinator.{Coordinator}
 use Rattle.coordinator.specs.Limits.{jobs, databases}
 use Rattle.coordinator.specs.Shape.{Shape}
@@ -16,7 +16,7 @@ use Rattle.effects.specs.View.{View, view}
 use Rattle.effects.specs.Effect.{askedAt, confirmedAt, heldAt}
 use Rattle.effects.proofs.Bounds.{open-names, open-range}
 use Rattle.effects.proofs.Marks.{shape-asked, shape-confirmed, shape-held, mark-asked, mark-confirmed, mark-held}
-use Rattle.soundness.specs.SoundView.{Empty, SoundView}
+use Rattle.soundness.specs.SoundView.{SoundView}
 use Rattle.soundness.specs.Changed.{Changed}
 use Rattle.soundness.proofs.Seen.{seen-sound, changed}
 use Rattle.soundness.proofs.Slots.{marked-so, unmarked}

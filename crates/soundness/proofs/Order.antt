@@ -1,14 +1,16 @@
--- The opening order without one place. Assumes nothing.
+-- The opening order with one place more, and without one. Assumes nothing.
 use Prim.Native.Nat.{ℕ, suc, _+_, _-_, _<_, _≤_}
-use native.Mathlib.Decide.{decLt}
+use native.Mathlib.Decide.{decLt, ℕ-discrete}
 use native.Mathlib.Omega.{arith}
-use mathlib.Core.Bool.{Bool, true, false, not, _&&_}
-use mathlib.Core.Path.{_≡_, ap, sym, _∙_}
-use borrow.Author.Tests.{lt-ltb, le-ltb}
+use mathlib.Core.Bool.{Bool, true, false, not, _&&_, _||_}
+use mathlib.Core.Logic.{_⊎_, inl, inr}
+use mathlib.Core.Path.{_≡_, refl, ap, sym, _∙_}
+use borrow.Author.Tests.{eqb-true, eq-eqb, lt-ltb, le-ltb}
 use lib.Dec.{eqb, ltb}
 use Rattle.loops.specs.Sum.{tally}
+use Rattle.loops.proofs.Tests.{both, or-cases, or-right}
 use Rattle.soundness.specs.SoundView.{Listing}
-use Rattle.soundness.proofs.Slots.{other, other-so}
+use Rattle.soundness.proofs.Slots.{other, other-so, number-here, number-there}
 
 -- where place i has come from, once place p is gone
 abbrev moved : ℕ → ℕ → ℕ
@@ -59,3 +61,38 @@ removed-listing isOpen count opened j p L inside at = record {
     stands : (a i : ℕ) → i < count → opened i ≡ a → (k : ℕ) × (k ≤ i) × (moved p k ≡ i) × (p ≤ i → k + 1 ≡ i)
         → (k : ℕ) × (k < count - 1) × (opened (moved p k) ≡ a)
     stands a i l q (k, m, r, s) = (k, elim (decLt i p) [ yes x ↦ omega arith | no x ↦ omega (arith, s (omega arith)) ], ap opened r ∙ q)
+
+-- slot n takes the first place that is not used
+module _ (isOpen : ℕ → Bool) (count : ℕ) (opened : ℕ → ℕ) (L : Listing isOpen count opened) (n : ℕ) (free : isOpen n ≡ false) where
+  abbrev then : ℕ → ℕ
+  then i = elim (eqb i count) [ true ↦ n | false ↦ opened i ]
+
+  then-here : (i : ℕ) → i ≡ count → then i ≡ n
+  then-here i e = number-here n (opened i) i count e
+
+  then-there : (i : ℕ) → ¬ (i ≡ count) → then i ≡ opened i
+  then-there i d = number-there n (opened i) i count d
+
+  not-new : (i : ℕ) → i < count → ¬ (opened i ≡ n)
+  not-new i l e = both (L .only i l) (ap isOpen e ∙ free)
+
+  entered-once : (i k : ℕ) → i < suc count → k < suc count → then i ≡ then k → Dec (i ≡ count) → Dec (k ≡ count) → i ≡ k
+  entered-once i k l m e (yes p) (yes q) = p ∙ sym q
+  entered-once i k l m e (yes p) (no q) = absurd (not-new k (omega arith) (sym (then-there k q) ∙ sym e ∙ then-here i p))
+  entered-once i k l m e (no p) (yes q) = absurd (not-new i (omega arith) (sym (then-there i p) ∙ e ∙ then-here k q))
+  entered-once i k l m e (no p) (no q) = L .once i k (omega arith) (omega arith) (sym (then-there i p) ∙ e ∙ then-there k q)
+
+  pub entered-listing : Listing (λ a. eqb a n || isOpen a) (suc count) (λ i. elim (eqb i count) [ true ↦ n | false ↦ opened i ])
+  entered-listing = record {
+    only = λ i l. elim (ℕ-discrete i count) [
+      | yes e ↦ rw (eq-eqb (then i) n (then-here i e))
+      | no d ↦ or-right (eqb (then i) n) (isOpen (then i)) (ap isOpen (then-there i d) ∙ L .only i (omega arith))
+    ];
+    once = λ i k l m e. entered-once i k l m e (ℕ-discrete i count) (ℕ-discrete k count);
+    each = λ j e. stands j (or-cases (eqb j n) (isOpen j) e);
+    end = λ i l. then-there i (omega arith) ∙ L .end i (omega arith);
+  }
+    where
+      stands : (j : ℕ) → (eqb j n ≡ true) ⊎ (isOpen j ≡ true) → (i : ℕ) × (i < suc count) × (then i ≡ j)
+      stands j (inl e) = (count, omega arith, then-here count refl ∙ sym (eqb-true j n e))
+      stands j (inr o) = let (i, l, q) = L .each j o in (i, omega arith, then-there i (omega arith) ∙ q)

@@ -2,7 +2,7 @@
 use Prim.Native.Nat.{ℕ, _<_}
 use mathlib.Core.Bool.{Bool, true, false, not, _&&_, _||_}
 use mathlib.Core.Logic.{_⊎_, inl, inr}
-use mathlib.Core.Path.{_≡_, refl, ap, sym, _∙_}
+use mathlib.Core.Path.{_≡_, sym, _∙_}
 use borrow.Author.Tests.{eqb-true, eqb-false, eq-eqb, ne-eqb, not-true}
 use lib.Dec.{eqb}
 use Rattle.loops.proofs.Tests.{and-left, and-right, or-cases, or-right, or-false}
@@ -14,7 +14,6 @@ use Rattle.coordinator.specs.Views.{names, asked, released}
 use Rattle.coordinator.specs.Release.{release}
 use Rattle.effects.specs.View.{View, view}
 use Rattle.effects.specs.Effect.{releasedAt}
-use Rattle.effects.proofs.Bounds.{open-names}
 use Rattle.effects.proofs.Release.{shape-release, released-step}
 use Rattle.soundness.specs.SoundView.{Joined, SoundView, NamesOpen}
 use Rattle.soundness.specs.Changed.{Changed}

@@ -1,15 +1,14 @@
 -- A state is sound exactly where what can be seen of it is; so a change is judged by what it shows. Assumes nothing.
-use Prim.Native.Nat.{ℕ, _<_}
-use mathlib.Core.Bool.{true, false}
+use Prim.Native.Nat.{ℕ}
+use mathlib.Core.Bool.{true}
 use mathlib.Core.Path.{_≡_, sym, _∙_}
 use Rattle.coordinator.specs.declared.Coordinator.{Coordinator}
-use Rattle.coordinator.specs.Limits.{jobs}
 use Rattle.coordinator.specs.Shape.{Shape}
 use Rattle.coordinator.specs.Sound.{Ordered, Joins, Zeros, Sound}
-use Rattle.coordinator.specs.Views.{isOpen, openCount, opened, ticket, held, asked, released, confirmed}
+use Rattle.coordinator.specs.Views.{isOpen}
 use Rattle.effects.specs.View.{View, view, Alike}
 use Rattle.effects.proofs.Bounds.{open-names, open-range}
-use Rattle.soundness.specs.SoundView.{Listing, Joined, Empty, SoundView, NamesOpen}
+use Rattle.soundness.specs.SoundView.{Joined, Empty, SoundView, NamesOpen}
 use Rattle.soundness.specs.Changed.{Changed}
 
 pub seen-sound : (s : Coordinator) → Sound s → SoundView (view s)
@@ -90,3 +89,23 @@ module _ (s : Coordinator) (h : Shape s) (v : View) (A : Alike (view s) v) (S : 
 
   pub changed : Changed s v
   changed = record { shape = h; sound = shown-sound; shows = A }
+
+-- what shows the same
+alike-then : {u v w : View} → Alike u v → Alike v w → Alike u w
+alike-then A B = record {
+  inMask = λ j k. A .inMask j k ∙ B .inMask j k;
+  names = λ j k. A .names j k ∙ B .names j k;
+  asked = λ j k. A .asked j k ∙ B .asked j k;
+  released = λ j k. A .released j k ∙ B .released j k;
+  confirmed = λ j k. A .confirmed j k ∙ B .confirmed j k;
+  isOpen = λ j. A .isOpen j ∙ B .isOpen j;
+  held = λ j. A .held j ∙ B .held j;
+  ticket = λ j. A .ticket j ∙ B .ticket j;
+  count = A .count ∙ B .count;
+  opened = λ i. A .opened i ∙ B .opened i;
+  dep = λ k a b l. A .dep k a b l ∙ B .dep k a b l;
+  candidate = A .candidate ∙ B .candidate;
+}
+
+pub changed-alike : {s : Coordinator} {v w : View} → Changed s v → Alike v w → Changed s w
+changed-alike c A = record { shape = c .shape; sound = c .sound; shows = alike-then (c .shows) A }
