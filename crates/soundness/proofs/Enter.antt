@@ -23,8 +23,8 @@ use Rattle.soundness.specs.SoundView.{Joined, Empty, SoundView, NamesOpe
 use Rattle.soundness.specs.Changed.{Changed}
 use Rattle.soundness.proofs.Seen.{seen-sound, names-open, changed}
 use Rattle.soundness.proofs.Slots.{number-here, number-there}
-use Rattle.soundness.proofs.Order.{entered-listing}
-use Rattle.soundness.proofs.Ticket.{ticket-unheld}
+use Rattle.soundness.proofs.Listing.{entered-listing}
+use Rattle.soundness.proofs.GivenOut.{ticket-unheld}
 
 module _ (v : View) (S : SoundView v) (N : NamesOpen v) (n mask t next : ℕ) (free : v .isOpen n ≡ false) where
   abbrev w : View

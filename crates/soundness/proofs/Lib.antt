@@ -1,14 +1,14 @@
--- `Seen`: a state is sound where what can be seen of it is. `Slots`, `Order`: a view changed at one slot, and the opening order.
+-- `Seen`: a state is sound where what can be seen of it is. `Slots`, `Listing`: a view changed at one slot, and the opening order.
 -- `Fresh`, `Marks`, `Release`, `Remove`, `Enter`, `Open`: the fresh start is sound, and each small change of a sound state leaves a sound state.
--- `Ticket`: the ticket given out. `Free`: what a free slot shows.
+-- `GivenOut`: the ticket given out. `Free`: what a free slot shows.
 pub mod Seen
 pub mod Slots
-pub mod Order
+pub mod Listing
 pub mod Fresh
 pub mod Marks
 pub mod Release
 pub mod Remove
-pub mod Ticket
+pub mod GivenOut
 pub mod Free
 pub mod Enter
 pub mod Open

@@ -20,7 +20,7 @@ use Rattle.soundness.specs.SoundView.{Joined, Empty, SoundView}
 use Rattle.soundness.specs.Changed.{Changed}
 use Rattle.soundness.proofs.Seen.{seen-sound, changed}
 use Rattle.soundness.proofs.Slots.{other, other-so, other-not, none-other, no-more, number-here, number-there}
-use Rattle.soundness.proofs.Order.{removed-listing}
+use Rattle.soundness.proofs.Listing.{removed-listing}
 
 module _ (v : View) (S : SoundView v) (j p : ℕ) where
   removed-joins : (k a b : ℕ) → ¬ (a ≡ j) → ¬ (b ≡ j) → Joined (v .isOpen) (v .names) k a b → Joined (removedAt v j p .isOpen) (removedAt v j p .names) k a b
