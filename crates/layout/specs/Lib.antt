@@ -1,2 +1,3 @@
--- A text put into a buffer: `Put`.
+-- A text put into a buffer: `Put`. Numbers as bytes: `Bytes`.
 pub mod Put
+pub mod Bytes
