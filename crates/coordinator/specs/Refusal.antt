@@ -5,6 +5,7 @@ use mathlib.Core.List.{List, [], _∷_}
 use mathlib.Core.Option.{Option, none, some}
 use lib.Dec.{eqb, ltb}
 use Rattle.loops.specs.Loop.{every}
+use Rattle.mask.specs.Member.{size}
 use Rattle.coordinator.specs.declared.Coordinator.{Coordinator}
 use Rattle.coordinator.specs.Limits.{jobs, databases}
 use Rattle.coordinator.specs.Views.{inMask, names, asked, released, confirmed, openCount, held}
@@ -35,6 +36,15 @@ openRefusal s mask =
     (record { applies = not (sound s); number = 10 }
     ∷ record { applies = eqb mask 0; number = 1 }
     ∷ record { applies = eqb (openCount s) jobs; number = 2 }
+    ∷ [])
+
+-- an opening's rows, of what the code has read by then: whether the state is sound, the mask, the open slots
+unfoldable pub slotRefusal : Bool → ℕ → ℕ → Option ℕ
+slotRefusal isSound mask slots =
+    firstRow
+    (record { applies = not isSound; number = 10 }
+    ∷ record { applies = eqb mask 0; number = 1 }
+    ∷ record { applies = eqb (size jobs slots) jobs; number = 2 }
     ∷ [])
 
 -- what ask and confirm share, of what the code has read by then: whether the state is sound, the slots that hold the ticket, whether the job names

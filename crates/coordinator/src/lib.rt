@@ -9,6 +9,7 @@ mod count;
 mod enter;
 mod holder;
 mod may_close;
+mod open;
 mod order;
 mod refusal;
 mod release;

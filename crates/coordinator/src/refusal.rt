@@ -2,7 +2,25 @@
 use crate::Coordinator;
 use numbers::Database;
 ghost use mathlib.Core.Path.{_≡_};
-ghost use Rattle.coordinator.specs.Refusal.{numberOf, stepRefusal, jobRefusal};
+ghost use Rattle.coordinator.specs.Refusal.{numberOf, slotRefusal, stepRefusal, jobRefusal};
+
+// Of open.
+pub(crate) fn of_open(sound: bool, mask: u16, slots: u32) -> u8
+    ensures { λ r. ⌜ r ≡ numberOf (slotRefusal sound mask slots) ⌝ }
+{
+    let names_none = mask == 0;
+    let is_full = mask::slots::size(slots) as usize == Coordinator::JOBS;
+    if !sound {
+        return 10;
+    }
+    if names_none {
+        return 1;
+    }
+    if is_full {
+        return 2;
+    }
+    0
+}
 
 // Of ask and confirm. `found` are the slots that hold the ticket, `names` says whether the job names database k; the last row is the call's own.
 pub(crate) fn of_step(

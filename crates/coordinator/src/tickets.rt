@@ -1,9 +1,13 @@
-// The tickets that open jobs hold.
+// The tickets that open jobs hold, and the one for the next job.
 use crate::Coordinator;
+use numbers::NumberMaker;
+use numbers::maker;
+use numbers::maker::Handed;
 ghost use mathlib.Core.Path.{_≡_};
 ghost use Prim.Native.Nat.{ℕ, _≤_};
 ghost use lib.ListN.{length, take};
 ghost use Rattle.loops.specs.Table.{table};
+ghost use Rattle.numbers.specs.Ticket.{ticketFrom, after};
 ghost use Rattle.coordinator.specs.Limits.{jobs};
 ghost use Rattle.coordinator.specs.Views.{entry};
 
@@ -21,9 +25,9 @@ fn ticket_at(tickets: &[u16; Coordinator::JOBS], j: u8) -> u16
 }
 
 // The tickets of the n open jobs in the order of their opening, with zeros after them.
-pub(crate) fn held_tickets(
-    tickets: &[u16; Coordinator::JOBS],
-    order: &[u8; Coordinator::JOBS],
+fn held_tickets<'a>(
+    tickets: &'a [u16; Coordinator::JOBS],
+    order: &'a [u8; Coordinator::JOBS],
     n: usize,
 ) -> [u16; Coordinator::JOBS]
     requires { ⌜ (n ≤ jobs) × (length (now tickets) ≡ jobs) ⌝ }
@@ -34,4 +38,18 @@ pub(crate) fn held_tickets(
         held[i] = ticket_at(tickets, order[i]);
     }
     held
+}
+
+// The first number from the candidate upwards that none of the n open jobs holds, and the number maker left.
+pub(crate) fn hand_out<'a>(
+    candidate: NumberMaker,
+    tickets: &'a [u16; Coordinator::JOBS],
+    order: &'a [u8; Coordinator::JOBS],
+    n: usize,
+) -> Handed
+    requires { ⌜ (n ≤ jobs) × (length (now tickets) ≡ jobs) ⌝ }
+    ensures { λ r. ⌜ (r .ticket .0 ≡ ticketFrom (table n (λ i. entry (now (tickets .entry)) (entry (now (order .entry)) i))) (candidate .next)) × (r .maker .next ≡ after (r .ticket .0)) ⌝ }
+{
+    let held = held_tickets(tickets, order, n);
+    maker::hand_out(candidate, &held[..n])
 }

@@ -1,6 +1,5 @@
 use borrow.Author.Needs.{needs}
 use Rattle.mask.specs.Lowest.{Lowest}
-use Rattle.mask.proofs.Words.{or-shl}
 use Rattle.mask.proofs.Walking.{Left, left-start, left-lowest, left-rest, left-falls, left-done}
 use Rattle.coordinator.specs.Change.{mark}
 use Rattle.coordinator.proofs.enter.name_databases.Statement.{statement}
@@ -21,23 +20,8 @@ lowest-requires c κs = search needs
 cast-k : tie.Need-cast-k Inv-loop μ-loop
 cast-k c = let l : Lowest 16 _ _ = left-lowest _ 16 _ _ _ _ _ (c .before .before .before .fits .mask .fits) (c .before .loop-test .taken) (c .before .before .loop .inv) (c .lowest .ensures) in search needs
 
-mul-slots : tie.Need-mul-slots Inv-loop μ-loop
-mul-slots c = search needs
-
-element-copy-out-slots : tie.Need-element-copy-out-slots Inv-loop μ-loop
-element-copy-out-slots c = let l : Lowest 16 _ _ = left-lowest _ 16 _ _ _ _ _ (c .before .before .before .fits .mask .fits) (c .before .loop-test .taken) (c .before .before .loop .inv) (c .lowest .ensures) in search needs
-
-cast-named : tie.Need-cast-named Inv-loop μ-loop
-cast-named c = search needs
-
-shl-named : tie.Need-shl-named Inv-loop μ-loop
-shl-named c = search needs
-
-mul-named : tie.Need-mul-named Inv-loop μ-loop
-mul-named c = search needs
-
-element-write-named : tie.Need-element-write-named Inv-loop μ-loop
-element-write-named c = let l : Lowest 16 _ _ = left-lowest _ 16 _ _ _ _ _ (c .before .before .before .before .before .fits .mask .fits) (c .before .before .before .loop-test .taken) (c .before .before .before .before .loop .inv) (c .before .before .lowest .ensures) in search needs
+mark-requires : tie.Need-mark-requires Inv-loop μ-loop
+mark-requires c κs = let l : Lowest 16 _ _ = left-lowest _ 16 _ _ _ _ _ (c .before .before .before .before .fits .mask .fits) (c .before .before .loop-test .taken) (c .before .before .before .loop .inv) (c .before .lowest .ensures) in search needs
 
 rest-requires : tie.Need-rest-requires Inv-loop μ-loop
 rest-requires c κs = search needs
@@ -46,8 +30,7 @@ loop-less : tie.Need-loop-less Inv-loop μ-loop
 loop-less c = left-falls _ 16 _ _ _ _ _ (c .before .before .before .before .before .before .fits .mask .fits) (c .before .before .before .before .loop-test .taken) (c .before .before .before .before .before .loop .inv) (c .before .before .before .lowest .ensures) _ (c .rest .ensures)
 
 loop-again : tie.Need-loop-again Inv-loop μ-loop
-unfolding mark
-loop-again c = left-rest _ 16 _ _ _ _ _ (c .before .before .before .before .before .before .fits .mask .fits) (c .before .before .before .before .loop-test .taken) (c .before .before .before .before .before .loop .inv) (c .before .before .before .lowest .ensures) _ _ (c .rest .ensures) (rw (or-shl 32 _ (c .before .before .before .before .before .before .args .n .0) (c .before .before .before .before .before .before .pre)))
+loop-again c = left-rest _ 16 _ _ _ _ _ (c .before .before .before .before .before .before .fits .mask .fits) (c .before .before .before .before .loop-test .taken) (c .before .before .before .before .before .loop .inv) (c .before .before .before .lowest .ensures) _ _ (c .rest .ensures) (c .before .mark .ensures)
 
 returns : tie.Need-returns Inv-loop μ-loop
 returns c = left-done _ 16 _ _ _ _ (c .loop-test .left) (c .before .loop .inv)
@@ -61,12 +44,7 @@ name-databases-spec =
     loop-holds
     lowest-requires
     cast-k
-    mul-slots
-    element-copy-out-slots
-    cast-named
-    shl-named
-    mul-named
-    element-write-named
+    mark-requires
     rest-requires
     loop-less
     loop-again
