@@ -1,6 +1,7 @@
 -- `Seen`: a state is sound where what can be seen of it is. `Slots`, `Listing`: a view changed at one slot, and the opening order.
 -- `Fresh`, `Marks`, `Release`, `Remove`, `Enter`, `Open`: the fresh start is sound, and each small change of a sound state leaves a sound state.
--- `GivenOut`: the ticket given out. `Free`: what a free slot shows.
+-- `GivenOut`: the ticket given out. `Free`: what a free slot shows. `Accepted`: what a call finds that is not refused. `Arms`: which arm each call takes.
+-- `Calls`: every call on a sound state leaves a sound state.
 pub mod Seen
 pub mod Slots
 pub mod Listing
@@ -12,3 +13,6 @@ pub mod GivenOut
 pub mod Free
 pub mod Enter
 pub mod Open
+pub mod Accepted
+pub mod Arms
+pub mod Calls

@@ -1,4 +1,6 @@
--- `SoundView`: soundness, told of what can be seen. `Changed`: what a small change of a sound state leaves. `GivenOut`: the rule for tickets.
+-- `SoundView`: soundness, told of what can be seen. `Changed`: what a small change of a sound state leaves. `GivenOut`: the rule for tickets. `Accepted`: what a call finds that is not refused. `Kept`: what every call keeps.
 pub mod SoundView
 pub mod Changed
 pub mod GivenOut
+pub mod Accepted
+pub mod Kept
