@@ -1,23 +1,23 @@
--- The moves as the code makes them, and what the definition does at one slot. Assumes nothing.
+-- The moves as the code makes them are those that the definition makes. Assumes nothing.
 use Prim.Native.Nat.{ℕ, _+_, _-_, _*_, _%_, _^_, _<_}
 use native.Mathlib.Numerals.{add-one}
 use mathlib.Core.Bool.{true, false, not, _&&_}
 use mathlib.Core.List.{List}
 use mathlib.Core.Path.{_≡_, refl, sym, ap, _∙_}
 use borrow.Author.Tests.{eq-eqb, ne-eqb}
-use lib.Bits.{bitAnd, bitOr}
+use lib.Bits.{bitAnd}
 use lib.Dec.{eqb}
-use lib.ListN.{getD, set}
+use lib.ListN.{getD}
 use Rattle.loops.specs.Loop.{choice}
 use Rattle.loops.proofs.Rules.{guard-yes, guard-no, choice-yes, choice-no, guard-rule}
 use Rattle.mask.specs.Member.{digit, holds, excluding}
 use Rattle.mask.proofs.Change.{excluding-lt, less-lt}
 use Rattle.mask.proofs.Holds.{holds-of, holds-excluding, holds-less}
 use Rattle.mask.proofs.Words.{or-shl, and-not-shl}
-use Rattle.walks.specs.Walk.{Graph}
 use Rattle.walks.specs.Search.{Seek, markReached, markFound, back, closing, forward, opens, choose, run}
 use Rattle.search.specs.Search.{graph}
-use Rattle.search.specs.Visit.{marks, seek, Candidate, Candidates, visitedJob, visitedSlot}
+use Rattle.search.specs.Visit.{marks, seek, Candidates, visitedJob}
+use Rattle.search.proofs.Here.{Here, marked, visitedSlot}
 
 -- the slots to try, as the code has them
 pub candidates-are : (all reached n v : ℕ) → all < 2 ^ 32 → reached < 2 ^ 32 → n < 32 → v < 32
@@ -34,13 +34,11 @@ seek-is p q r = rw (p, q, r)
 
 -- ---- closing, forward and return moves
 
-pub found-is : (reached found : List ℕ) (moves v u : ℕ) → v < 32
-    → seek reached (set found u (bitOr (getD found u 0) (1 * 2 ^ v % 2 ^ 32))) (moves + 1) ≡ markFound marks v u (seek reached found moves)
+found-is : (reached found : List ℕ) (moves v u : ℕ) → v < 32 → seek reached (marked found u v) (moves + 1) ≡ markFound marks v u (seek reached found moves)
 unfolding markFound
 found-is reached found moves v u h = rw (or-shl 32 (getD found u 0) v h, add-one)
 
-pub reached-is : (reached found : List ℕ) (moves w u : ℕ) → w < 32
-    → seek (set reached u (bitOr (getD reached u 0) (1 * 2 ^ w % 2 ^ 32))) found (moves + 1) ≡ markReached marks w u (seek reached found moves)
+pub reached-is : (reached found : List ℕ) (moves w u : ℕ) → w < 32 → seek (marked reached u w) found (moves + 1) ≡ markReached marks w u (seek reached found moves)
 unfolding markReached
 reached-is reached found moves w u h = rw (or-shl 32 (getD reached u 0) w h, add-one)
 
@@ -48,51 +46,54 @@ back-is : (reached found : List ℕ) (moves : ℕ) → seek reached found (moves
 unfolding back
 back-is reached found moves = rw add-one
 
-module _ (named dependencies : List ℕ) (n : ℕ) where
-  abbrev G : Graph
-  G = graph named dependencies n
+-- ---- one law for each way that the code can take at a slot
 
-  -- ---- slot w at database u, come to from v: one law for each way that the code can take
+module _ {named dependencies : List ℕ} {n v u w : ℕ} {reached found : List ℕ} {moves : ℕ} (at : Here named dependencies n v u w reached found moves) where
+  abbrev here : Seek marks
+  here = seek reached found moves
 
-  module _ (v u w : ℕ) (reached found : List ℕ) (moves : ℕ) (m : Candidate named u v w) where
-    abbrev here : Seek marks
-    here = seek reached found moves
-
-    pub slot-held : digit (getD dependencies (u * 32 + w) 0) v ≡ 1 → here ≡ visitedSlot named dependencies n v u w here
-    unfolding choose
-    slot-held d = sym (guard-no (opens G u v w) _ here (rw (m, holds-of (getD dependencies (u * 32 + w) 0) v d)))
-
-    module _ (d : ¬ (digit (getD dependencies (u * 32 + w) 0) v ≡ 1)) where
-      opened : visitedSlot named dependencies n v u w here ≡ choice (eqb w n) (closing marks v u) (forward marks (run G marks) w u) here
-      unfolding choose
-      opened = guard-yes (opens G u v w) _ here (rw (m, ne-eqb _ 1 d))
-
-      pub slot-found : w ≡ n → digit (getD found u 0) v ≡ 1 → here ≡ visitedSlot named dependencies n v u w here
-      unfolding closing
-      slot-found e f = sym (opened ∙ choice-yes (eqb w n) _ _ here (eq-eqb w n e) ∙ guard-no _ _ here (rw (holds-of (getD found u 0) v f)))
-
-      pub slot-closes : w ≡ n → ¬ (digit (getD found u 0) v ≡ 1) → (r : Seek marks) → r ≡ markFound marks v u here → r ≡ visitedSlot named dependencies n v u w here
-      unfolding closing
-      slot-closes e f r q = q ∙ sym (opened ∙ choice-yes (eqb w n) _ _ here (eq-eqb w n e) ∙ guard-yes _ _ here (rw (ne-eqb (digit (getD found u 0) v) 1 f)))
-
-      pub slot-reached : ¬ (w ≡ n) → digit (getD reached u 0) w ≡ 1 → here ≡ visitedSlot named dependencies n v u w here
-      unfolding forward
-      slot-reached e f = sym (opened ∙ choice-no (eqb w n) _ _ here (ne-eqb w n e) ∙ guard-no _ _ here (rw (holds-of (getD reached u 0) w f)))
-
-      pub slot-forward : ¬ (w ≡ n) → ¬ (digit (getD reached u 0) w ≡ 1) → (x : Seek marks) → x ≡ markReached marks w u here
-          → (R F : List ℕ) (r : ℕ) → seek R F r ≡ visitedJob named dependencies n w u x → seek R F (r + 1) ≡ visitedSlot named dependencies n v u w here
-      unfolding forward
-      slot-forward e f x p R F r q =
-          back-is R F r ∙ ap (back marks) (q ∙ ap (run G marks w u) p)
-          ∙ sym (opened ∙ choice-no (eqb w n) _ _ here (ne-eqb w n e) ∙ guard-yes _ _ here (rw (ne-eqb (digit (getD reached u 0) w) 1 f)))
-
-  -- ---- slots that the code does not look at: one that is no candidate, and one that is reached
-
-  pub slot-other : (v u w : ℕ) (t : Seek marks) → not (eqb w v) && holds (getD named u 0) w ≡ false → visitedSlot named dependencies n v u w t ≡ t
+  pub slot-held : digit (getD dependencies (u * 32 + w) 0) v ≡ 1 → here ≡ visitedSlot named dependencies n v u w here
   unfolding choose
-  slot-other v u w t e = guard-no (opens G u v w) _ t (rw e)
+  slot-held d = sym (guard-no (opens (graph named dependencies n) u v w) _ here (rw (at .candidate, holds-of (getD dependencies (u * 32 + w) 0) v d)))
 
-  pub slot-known : (v u w : ℕ) (t : Seek marks) → ¬ (w ≡ n) → holds (getD (t .reached) u 0) w ≡ true → visitedSlot named dependencies n v u w t ≡ t
+  module _ (d : ¬ (digit (getD dependencies (u * 32 + w) 0) v ≡ 1)) where
+    opened : visitedSlot named dependencies n v u w here
+        ≡ choice (eqb w n) (closing marks v u) (forward marks (run (graph named dependencies n) marks) w u) here
+    unfolding choose
+    opened = guard-yes (opens (graph named dependencies n) u v w) _ here (rw (at .candidate, ne-eqb _ 1 d))
+
+    pub slot-found : w ≡ n → digit (getD found u 0) v ≡ 1 → here ≡ visitedSlot named dependencies n v u w here
+    unfolding closing
+    slot-found e f = sym (opened ∙ choice-yes (eqb w n) _ _ here (eq-eqb w n e) ∙ guard-no _ _ here (rw (holds-of (getD found u 0) v f)))
+
+    pub slot-closes : w ≡ n → ¬ (digit (getD found u 0) v ≡ 1) → seek reached (marked found u v) (moves + 1) ≡ visitedSlot named dependencies n v u w here
+    unfolding closing
+    slot-closes e f =
+        found-is reached found moves v u (at .from)
+        ∙ sym (opened ∙ choice-yes (eqb w n) _ _ here (eq-eqb w n e) ∙ guard-yes _ _ here (rw (ne-eqb (digit (getD found u 0) v) 1 f)))
+
+    pub slot-reached : ¬ (w ≡ n) → digit (getD reached u 0) w ≡ 1 → here ≡ visitedSlot named dependencies n v u w here
+    unfolding forward
+    slot-reached e f = sym (opened ∙ choice-no (eqb w n) _ _ here (ne-eqb w n e) ∙ guard-no _ _ here (rw (holds-of (getD reached u 0) w f)))
+
+    pub slot-forward : ¬ (w ≡ n) → ¬ (digit (getD reached u 0) w ≡ 1)
+        → (R F : List ℕ) (r : ℕ) → seek R F r ≡ visitedJob named dependencies n w u (seek (marked reached u w) found (moves + 1))
+        → seek R F (r + 1) ≡ visitedSlot named dependencies n v u w here
+    unfolding forward
+    slot-forward e f R F r q =
+        back-is R F r
+        ∙ ap (back marks) (q ∙ ap (run (graph named dependencies n) marks w u) (reached-is reached found moves w u (at .slot)))
+        ∙ sym (opened ∙ choice-no (eqb w n) _ _ here (ne-eqb w n e) ∙ guard-yes _ _ here (rw (ne-eqb (digit (getD reached u 0) w) 1 f)))
+
+-- ---- slots that the code does not look at: one that is no candidate, and one that is reached
+
+module _ (named dependencies : List ℕ) (n v u w : ℕ) (t : Seek marks) where
+  pub slot-other : not (eqb w v) && holds (getD named u 0) w ≡ false → visitedSlot named dependencies n v u w t ≡ t
+  unfolding choose
+  slot-other e = guard-no (opens (graph named dependencies n) u v w) _ t (rw e)
+
+  pub slot-known : ¬ (w ≡ n) → holds (getD (t .reached) u 0) w ≡ true → visitedSlot named dependencies n v u w t ≡ t
   unfolding choose forward
-  slot-known v u w t ne e =
-      guard-rule (λ (r : Seek marks). r ≡ t) (opens G u v w) _ t (λ p. choice-no (eqb w n) _ _ t (ne-eqb w n ne) ∙ guard-no _ _ t (rw e)) (λ p. refl)
+  slot-known ne e =
+      guard-rule (λ (r : Seek marks). r ≡ t) (opens (graph named dependencies n) u v w) _ t
+      (λ p. choice-no (eqb w n) _ _ t (ne-eqb w n ne) ∙ guard-no _ _ t (rw e)) (λ p. refl)

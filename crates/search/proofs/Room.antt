@@ -4,9 +4,9 @@ use native.Mathlib.Nat.{le-refl, le-trans}
 use native.Mathlib.Omega.{arith}
 use mathlib.Core.Bool.{true}
 use mathlib.Core.List.{List}
-use mathlib.Core.Path.{_≡_, ap}
+use mathlib.Core.Path.{_≡_, ap, _∙_}
 use borrow.Author.Tests.{ne-eqb}
-use lib.ListN.{getD}
+use lib.ListN.{getD, length-set}
 use Rattle.mask.specs.Member.{digit, holds}
 use Rattle.walks.specs.Marks.{count}
 use Rattle.walks.specs.Walk.{Graph}
@@ -17,7 +17,9 @@ use Rattle.walks.proofs.Next.{Good, Ok, Next}
 use Rattle.walks.proofs.Visit.{choose-next}
 use Rattle.walks.proofs.Run.{run-goes}
 use Rattle.search.specs.Search.{graph}
-use Rattle.search.specs.Visit.{marks, seek, unmarked, Ready, visitedJob, visitedSlot}
+use Rattle.search.specs.Visit.{marks, seek, unmarked, Ready, visitedJob}
+use Rattle.search.proofs.Here.{Here, marked, visitedSlot}
+use Rattle.search.proofs.Moves.{reached-is}
 
 -- ---- what any part of the search keeps
 
@@ -57,39 +59,42 @@ module _ (named dependencies : List ℕ) (n : ℕ) where
   slot-next v u w s hv hu hw e h =
       choose-next G marks (unmarked (s .reached)) (run G marks) (run-goes G marks (unmarked (s .reached))) v 16 hv u hu (λ q. omega arith) e w hw s (enough s h) .0
 
-  -- ---- one move, at slot w of database u, come to from v
+-- ---- one move
 
-  module _ (v u w : ℕ) (reached found : List ℕ) (moves : ℕ) (h : Ready (seek reached found moves)) (v< : v < 32) (u< : u < 16) (w< : w < 32) where
-    closing-count : ¬ (digit (getD found u 0) v ≡ 1) → count marks (marks .put found v u) ≡ count marks found + 1
-    closing-count f = count-put marks found v u (h .found-sets) v< u< (ne-eqb (digit (getD found u 0) v) 1 f)
+module _ {named dependencies : List ℕ} {n v u w : ℕ} {reached found : List ℕ} {moves : ℕ} (at : Here named dependencies n v u w reached found moves) where
+  pub closing-fits : ¬ (digit (getD found u 0) v ≡ 1) → moves + 1 < 2 ^ 32
+  closing-fits f =
+      let one = count-put marks found v u (at .ready .found-sets) (at .from) (at .database) (ne-eqb (digit (getD found u 0) v) 1 f) in
+      omega (arith, at .ready .fits, one, count-le marks (marks .put found v u), count-le marks reached)
 
-    pub closing-fits : ¬ (digit (getD found u 0) v ≡ 1) → moves + 1 < 2 ^ 32
-    closing-fits f = omega (arith, h .fits, closing-count f, count-le marks (marks .put found v u), count-le marks reached)
+  module _ (f : ¬ (digit (getD reached u 0) w ≡ 1)) where
+    one-more : count marks (marks .put reached w u) ≡ count marks reached + 1
+    one-more = count-put marks reached w u (at .ready .reached-sets) (at .slot) (at .database) (ne-eqb (digit (getD reached u 0) w) 1 f)
 
-    module _ (f : ¬ (digit (getD reached u 0) w ≡ 1)) where
-      forward-count : count marks (marks .put reached w u) ≡ count marks reached + 1
-      forward-count = count-put marks reached w u (h .reached-sets) w< u< (ne-eqb (digit (getD reached u 0) w) 1 f)
+    pub forward-fits : moves + 1 < 2 ^ 32
+    forward-fits = omega (arith, at .ready .fits, one-more, count-le marks (marks .put reached w u), count-le marks found)
 
-      pub forward-fits : moves + 1 < 2 ^ 32
-      forward-fits = omega (arith, h .fits, forward-count, count-le marks (marks .put reached w u), count-le marks found)
+    abbrev next : Seek marks
+    next = seek (marked reached u w) found (moves + 1)
 
-      marked-ready : Ready (markReached marks w u (seek reached found moves))
-      unfolding markReached
-      marked-ready = record { reached-sets = marks .good-put reached w u (h .reached-sets); found-sets = h .found-sets; fits = omega (arith, h .fits, forward-count) }
+    is-next : next ≡ markReached marks w u (seek reached found moves)
+    is-next = reached-is reached found moves w u (at .slot)
 
-      module _ (x : Seek marks) (p : x ≡ markReached marks w u (seek reached found moves)) where
-        pub forward-ready : Ready x
-        forward-ready = rw p marked-ready
+    count-next : count marks (marked reached u w) ≡ count marks reached + 1
+    unfolding markReached
+    count-next = ap (λ (z : Seek marks). count marks (z .reached)) is-next ∙ one-more
 
-        pub forward-falls : unmarked (x .reached) < unmarked reached
-        unfolding markReached
-        forward-falls = rw p (omega (arith, forward-count, count-le marks (marks .put reached w u)))
+    pub forward-ready : Ready next
+    forward-ready = record {
+      reached-sets = length-set reached u _ ∙ at .ready .reached-sets;
+      found-sets = at .ready .found-sets;
+      fits = omega (arith, at .ready .fits, count-next);
+    }
 
-        pub return-fits : (R F : List ℕ) (r : ℕ) → seek R F r ≡ visitedJob named dependencies n w u x → r + 1 < 2 ^ 32
-        unfolding markReached
-        return-fits R F r q =
-            let y : Next G marks (Come G w u) x (seek R F r) = rw q (job-next w u x w< forward-ready) in
-            let a : x .moves ≡ suc moves = ap (λ (z : Seek marks). z .moves) p in
-            let b : count marks (x .reached) ≡ count marks (marks .put reached w u) = ap (λ (z : Seek marks). count marks (z .reached)) p in
-            let c : count marks (x .found) ≡ count marks found = ap (λ (z : Seek marks). count marks (z .found)) p in
-            omega (arith, y .tally, h .fits, forward-count, count-le marks R, count-le marks F)
+    pub forward-falls : unmarked (marked reached u w) < unmarked reached
+    forward-falls = omega (arith, count-next, count-le marks (marked reached u w))
+
+    pub return-fits : (R F : List ℕ) (r : ℕ) → seek R F r ≡ visitedJob named dependencies n w u next → r + 1 < 2 ^ 32
+    return-fits R F r q =
+        let y : Next (graph named dependencies n) marks (Come (graph named dependencies n) w u) next (seek R F r) = rw q (job-next named dependencies n w u next (at .slot) forward-ready) in
+        omega (arith, y .tally, at .ready .fits, count-next, count-le marks R, count-le marks F)

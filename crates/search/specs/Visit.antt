@@ -1,14 +1,14 @@
 -- What the functions of the search ask and leave. Assumes nothing: these are definitions.
 use mathlib.Core.Path.{_≡_}
-use mathlib.Core.Bool.{true, not, _&&_}
+use mathlib.Core.Bool.{not, _&&_}
 use mathlib.Core.List.{List}
 use Prim.Native.Nat.{ℕ, _+_, _-_, _*_, _^_, _<_}
 use lib.Dec.{eqb}
-use lib.ListN.{length, getD}
+use lib.ListN.{length}
 use Rattle.mask.specs.Member.{holds}
 use Rattle.walks.specs.Marks.{Marks, count}
 use Rattle.walks.specs.Rows.{rows}
-use Rattle.walks.specs.Search.{Seek, run, across, choose}
+use Rattle.walks.specs.Search.{Seek, run, across}
 use Rattle.search.specs.Search.{graph}
 
 -- one set of slots for each database
@@ -28,10 +28,6 @@ pub record Ready (s : Seek marks) : Type 0 where
   pub found-sets : length (s .found) ≡ 16
   pub fits : s .moves + 1536 < 2 ^ 32 + (2 * count marks (s .reached) + count marks (s .found))
 
--- one may go on from v through u to w, if no dependency stands there
-abbrev pub Candidate : List ℕ → ℕ → ℕ → ℕ → Type 0
-Candidate named u v w = (not (eqb w v) && holds (getD named u 0) w) ≡ true
-
 -- m has the members of `all` but v, without those of `reached` but n
 pub record Candidates (all reached n v m : ℕ) : Type 0 where
   pub below : m < 2 ^ 32
@@ -42,6 +38,3 @@ visitedJob named dependencies n v via s = run (graph named dependencies n) marks
 
 abbrev pub visitedDatabase : List ℕ → List ℕ → ℕ → ℕ → ℕ → Seek marks → Seek marks
 visitedDatabase named dependencies n v u s = across (graph named dependencies n) marks (run (graph named dependencies n) marks) v u s
-
-abbrev pub visitedSlot : List ℕ → List ℕ → ℕ → ℕ → ℕ → ℕ → Seek marks → Seek marks
-visitedSlot named dependencies n v u w s = choose (graph named dependencies n) marks (run (graph named dependencies n) marks) v u w s

@@ -25,6 +25,7 @@ pub fn search(named: &[u32; 16], dependencies: &[u32; 512], n: Slot) -> Sought
     if n.0 >= 32 {
         return Sought { found, moves: 0 };
     }
+    // The new job is reached through no database.
     let none = Database(16);
     let moves = visit_job(named, dependencies, &mut reached, &mut found, n, n, none, 0);
     Sought { found, moves }

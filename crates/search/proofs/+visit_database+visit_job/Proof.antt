@@ -5,10 +5,10 @@ use Prim.Native.Nat.{ℕ, _+_, _-_, _*_, _^_, _<_}
 use native.Mathlib.Omega.{arith}
 use borrow.Author.Tests.{eq-eqb}
 use Rattle.search.specs.Visit.{seek, unmarked}
-use Rattle.search.proofs.Moves.{seek-is, found-is, reached-is, slot-held, slot-found, slot-closes, slot-reached, slot-forward}
+use Rattle.search.proofs.Moves.{seek-is, slot-held, slot-found, slot-closes, slot-reached, slot-forward}
 use Rattle.search.proofs.Room.{closing-fits, forward-fits, forward-ready, forward-falls, return-fits}
-use Rattle.search.proofs.Slots.{AtSlots, slots-start, slots-lowest, slots-falls, candidate, slots-turn, slots-done}
-use Rattle.search.proofs.Databases.{AtDatabases, databases-start, databases-kept, turn-via, turn-unnamed, turn-named, job-done}
+use Rattle.search.proofs.Slots.{AtSlots, slots-start, slot-here, slots-fall, slots-turn, slots-done}
+use Rattle.search.proofs.Databases.{AtDatabases, databases-start, databases-kept, turn-via, turn-unnamed, turn-named, databases-done}
 use borrow.Fn.Kinds.{In}
 use borrow.Fn.PlainCycle.{Measures, is, falls, and}
 use Rattle.search.proofs.visit_database.Reads as visit-database
@@ -177,7 +177,8 @@ visit-database-cast-low : (t : ℕ) → visit-database-lts.Need-cast-low (
   rest-reads.Learnt,
 ) (visit-database-at t) visit-database.Post visit-database-Inv-loop visit-database-μ-loop
 visit-database-cast-low t c =
-    let h : c .lowest .result < 32 = (slots-lowest _ _ _ _ _ _ _ (c .before .before .before .candidates .ensures) _ _ (c .before .before .loop .inv) (c .before .loop-test .taken) _ (c .lowest .ensures)) .within in
+    let h = slot-here (c .before .before .before .before .before .before .before .pre .1) (c .before .before .before .candidates .ensures) (c .before .before .loop .inv) (c .before .loop-test .taken) (c .lowest .ensures) in
+    let w : c .lowest .result < 32 = h .slot in
     search needs
 
 -- src/lib.rt:87:18
@@ -218,7 +219,8 @@ visit-database-add-at : (t : ℕ) → visit-database-lts.Need-add-at (
   rest-reads.Learnt,
 ) (visit-database-at t) visit-database.Post visit-database-Inv-loop visit-database-μ-loop
 visit-database-add-at t c =
-    let h : c .before .lowest .result < 32 = (slots-lowest _ _ _ _ _ _ _ (c .before .before .before .before .candidates .ensures) _ _ (c .before .before .before .loop .inv) (c .before .before .loop-test .taken) _ (c .before .lowest .ensures)) .within in
+    let h = slot-here (c .before .before .before .before .before .before .before .before .pre .1) (c .before .before .before .before .candidates .ensures) (c .before .before .before .loop .inv) (c .before .before .loop-test .taken) (c .before .lowest .ensures) in
+    let w : c .before .lowest .result < 32 = h .slot in
     search needs
 
 -- src/lib.rt:88:13
@@ -233,7 +235,8 @@ visit-database-mul-if1 : (t : ℕ) → visit-database-lts.Need-mul-if1 (
   rest-reads.Learnt,
 ) (visit-database-at t) visit-database.Post visit-database-Inv-loop visit-database-μ-loop
 visit-database-mul-if1 t c =
-    let h : c .before .lowest .result < 32 = (slots-lowest _ _ _ _ _ _ _ (c .before .before .before .before .candidates .ensures) _ _ (c .before .before .before .loop .inv) (c .before .before .loop-test .taken) _ (c .before .lowest .ensures)) .within in
+    let h = slot-here (c .before .before .before .before .before .before .before .before .pre .1) (c .before .before .before .before .candidates .ensures) (c .before .before .before .loop .inv) (c .before .before .loop-test .taken) (c .before .lowest .ensures) in
+    let w : c .before .lowest .result < 32 = h .slot in
     search needs
 
 -- src/lib.rt:88:13
@@ -248,7 +251,8 @@ visit-database-element-copy-out-if1 : (t : ℕ) → visit-database-lts.Need-elem
   rest-reads.Learnt,
 ) (visit-database-at t) visit-database.Post visit-database-Inv-loop visit-database-μ-loop
 visit-database-element-copy-out-if1 t c =
-    let h : c .before .lowest .result < 32 = (slots-lowest _ _ _ _ _ _ _ (c .before .before .before .before .candidates .ensures) _ _ (c .before .before .before .loop .inv) (c .before .before .loop-test .taken) _ (c .before .lowest .ensures)) .within in
+    let h = slot-here (c .before .before .before .before .before .before .before .before .pre .1) (c .before .before .before .before .candidates .ensures) (c .before .before .before .loop .inv) (c .before .before .loop-test .taken) (c .before .lowest .ensures) in
+    let w : c .before .lowest .result < 32 = h .slot in
     search needs
 
 -- src/lib.rt:88:33
@@ -393,7 +397,8 @@ visit-database-add-t : (t : ℕ) → visit-database-lts.Need-add-t (
   rest-reads.Learnt,
 ) (visit-database-at t) visit-database.Post visit-database-Inv-loop visit-database-μ-loop
 visit-database-add-t t c =
-    let h : c .before .before .before .before .before .before .before .before .before .before .before .before .before .loop .t + 1 < 2 ^ 32 = closing-fits (c .before .before .before .before .before .before .before .before .before .before .before .before .before .before .before .before .before .before .args .named .now) (c .before .before .before .before .before .before .before .before .before .before .before .before .before .before .before .before .before .before .args .dependencies .now) (c .before .before .before .before .before .before .before .before .before .before .before .before .before .before .before .before .before .before .args .n .0) (c .before .before .before .before .before .before .before .before .before .before .before .before .before .before .before .before .before .before .args .v .0) (c .before .before .before .before .before .before .before .before .before .before .before .before .before .before .before .before .before .before .args .u .0) (c .before .before .before .before .before .before .before .before .before .before .before .lowest .result) (c .before .before .before .before .before .before .before .before .before .before .before .before .before .loop .reached) (c .before .before .before .before .before .before .before .before .before .before .before .before .before .loop .found) (c .before .before .before .before .before .before .before .before .before .before .before .before .before .loop .t) (c .before .before .before .before .before .before .before .before .before .before .before .before .before .loop .inv .kept .ready) (c .before .before .before .before .before .before .before .before .before .before .before .before .before .before .before .before .before .before .pre .1 .1) (c .before .before .before .before .before .before .before .before .before .before .before .before .before .before .before .before .before .before .pre .1 .2) ((slots-lowest _ _ _ _ _ _ _ (c .before .before .before .before .before .before .before .before .before .before .before .before .before .before .candidates .ensures) _ _ (c .before .before .before .before .before .before .before .before .before .before .before .before .before .loop .inv) (c .before .before .before .before .before .before .before .before .before .before .before .before .loop-test .taken) _ (c .before .before .before .before .before .before .before .before .before .before .before .lowest .ensures)) .within) (c .before .if3 .taken) in
+    let h = slot-here (c .before .before .before .before .before .before .before .before .before .before .before .before .before .before .before .before .before .before .pre .1) (c .before .before .before .before .before .before .before .before .before .before .before .before .before .before .candidates .ensures) (c .before .before .before .before .before .before .before .before .before .before .before .before .before .loop .inv) (c .before .before .before .before .before .before .before .before .before .before .before .before .loop-test .taken) (c .before .before .before .before .before .before .before .before .before .before .before .lowest .ensures) in
+    let f : c .before .before .before .before .before .before .before .before .before .before .before .before .before .loop .t + 1 < 2 ^ 32 = closing-fits h (c .before .if3 .taken) in
     search needs
 
 -- src/lib.rt:96:25
@@ -447,7 +452,8 @@ visit-database-shr-if4 : (t : ℕ) → visit-database-lts.Need-shr-if4 (
   rest-reads.Learnt,
 ) (visit-database-at t) visit-database.Post visit-database-Inv-loop visit-database-μ-loop
 visit-database-shr-if4 t c =
-    let h : c .before .before .before .before .before .before .before .before .before .lowest .result < 32 = (slots-lowest _ _ _ _ _ _ _ (c .before .before .before .before .before .before .before .before .before .before .before .before .candidates .ensures) _ _ (c .before .before .before .before .before .before .before .before .before .before .before .loop .inv) (c .before .before .before .before .before .before .before .before .before .before .loop-test .taken) _ (c .before .before .before .before .before .before .before .before .before .lowest .ensures)) .within in
+    let h = slot-here (c .before .before .before .before .before .before .before .before .before .before .before .before .before .before .before .before .pre .1) (c .before .before .before .before .before .before .before .before .before .before .before .before .candidates .ensures) (c .before .before .before .before .before .before .before .before .before .before .before .loop .inv) (c .before .before .before .before .before .before .before .before .before .before .loop-test .taken) (c .before .before .before .before .before .before .before .before .before .lowest .ensures) in
+    let w : c .before .before .before .before .before .before .before .before .before .lowest .result < 32 = h .slot in
     search needs
 
 -- src/lib.rt:98:43
@@ -475,7 +481,8 @@ visit-database-shl-reached : (t : ℕ) → visit-database-lts.Need-shl-reached (
   rest-reads.Learnt,
 ) (visit-database-at t) visit-database.Post visit-database-Inv-loop visit-database-μ-loop
 visit-database-shl-reached t c =
-    let h : c .before .before .before .before .before .before .before .before .before .before .before .lowest .result < 32 = (slots-lowest _ _ _ _ _ _ _ (c .before .before .before .before .before .before .before .before .before .before .before .before .before .before .candidates .ensures) _ _ (c .before .before .before .before .before .before .before .before .before .before .before .before .before .loop .inv) (c .before .before .before .before .before .before .before .before .before .before .before .before .loop-test .taken) _ (c .before .before .before .before .before .before .before .before .before .before .before .lowest .ensures)) .within in
+    let h = slot-here (c .before .before .before .before .before .before .before .before .before .before .before .before .before .before .before .before .before .before .pre .1) (c .before .before .before .before .before .before .before .before .before .before .before .before .before .before .candidates .ensures) (c .before .before .before .before .before .before .before .before .before .before .before .before .before .loop .inv) (c .before .before .before .before .before .before .before .before .before .before .before .before .loop-test .taken) (c .before .before .before .before .before .before .before .before .before .before .before .lowest .ensures) in
+    let w : c .before .before .before .before .before .before .before .before .before .before .before .lowest .result < 32 = h .slot in
     search needs
 
 -- src/lib.rt:98:21
@@ -516,7 +523,8 @@ visit-database-add-visit-job : (t : ℕ) → visit-database-lts.Need-add-visit-j
   rest-reads.Learnt,
 ) (visit-database-at t) visit-database.Post visit-database-Inv-loop visit-database-μ-loop
 visit-database-add-visit-job t c =
-    let h : c .before .before .before .before .before .before .before .before .before .before .before .before .before .before .before .loop .t + 1 < 2 ^ 32 = forward-fits (c .before .before .before .before .before .before .before .before .before .before .before .before .before .before .before .before .before .before .before .before .args .named .now) (c .before .before .before .before .before .before .before .before .before .before .before .before .before .before .before .before .before .before .before .before .args .dependencies .now) (c .before .before .before .before .before .before .before .before .before .before .before .before .before .before .before .before .before .before .before .before .args .n .0) (c .before .before .before .before .before .before .before .before .before .before .before .before .before .before .before .before .before .before .before .before .args .v .0) (c .before .before .before .before .before .before .before .before .before .before .before .before .before .before .before .before .before .before .before .before .args .u .0) (c .before .before .before .before .before .before .before .before .before .before .before .before .before .lowest .result) (c .before .before .before .before .before .before .before .before .before .before .before .before .before .before .before .loop .reached) (c .before .before .before .before .before .before .before .before .before .before .before .before .before .before .before .loop .found) (c .before .before .before .before .before .before .before .before .before .before .before .before .before .before .before .loop .t) (c .before .before .before .before .before .before .before .before .before .before .before .before .before .before .before .loop .inv .kept .ready) (c .before .before .before .before .before .before .before .before .before .before .before .before .before .before .before .before .before .before .before .before .pre .1 .1) (c .before .before .before .before .before .before .before .before .before .before .before .before .before .before .before .before .before .before .before .before .pre .1 .2) ((slots-lowest _ _ _ _ _ _ _ (c .before .before .before .before .before .before .before .before .before .before .before .before .before .before .before .before .candidates .ensures) _ _ (c .before .before .before .before .before .before .before .before .before .before .before .before .before .before .before .loop .inv) (c .before .before .before .before .before .before .before .before .before .before .before .before .before .before .loop-test .taken) _ (c .before .before .before .before .before .before .before .before .before .before .before .before .before .lowest .ensures)) .within) (c .before .before .before .if4 .taken) in
+    let h = slot-here (c .before .before .before .before .before .before .before .before .before .before .before .before .before .before .before .before .before .before .before .before .pre .1) (c .before .before .before .before .before .before .before .before .before .before .before .before .before .before .before .before .candidates .ensures) (c .before .before .before .before .before .before .before .before .before .before .before .before .before .before .before .loop .inv) (c .before .before .before .before .before .before .before .before .before .before .before .before .before .before .loop-test .taken) (c .before .before .before .before .before .before .before .before .before .before .before .before .before .lowest .ensures) in
+    let f : c .before .before .before .before .before .before .before .before .before .before .before .before .before .before .before .loop .t + 1 < 2 ^ 32 = forward-fits h (c .before .before .before .if4 .taken) in
     search needs
 
 -- src/lib.rt:99:25
@@ -531,7 +539,8 @@ visit-database-visit-job-requires : (t : ℕ) → visit-database-lts.Need-visit-
   rest-reads.Learnt,
 ) (visit-database-at t) visit-database.Post visit-database-Inv-loop visit-database-μ-loop
 visit-database-visit-job-requires t c κs =
-    (omega (arith, forward-falls (c .before .before .before .before .before .before .before .before .before .before .before .before .before .before .before .before .before .before .before .before .args .named .now) (c .before .before .before .before .before .before .before .before .before .before .before .before .before .before .before .before .before .before .before .before .args .dependencies .now) (c .before .before .before .before .before .before .before .before .before .before .before .before .before .before .before .before .before .before .before .before .args .n .0) (c .before .before .before .before .before .before .before .before .before .before .before .before .before .before .before .before .before .before .before .before .args .v .0) (c .before .before .before .before .before .before .before .before .before .before .before .before .before .before .before .before .before .before .before .before .args .u .0) (c .before .before .before .before .before .before .before .before .before .before .before .before .before .lowest .result) (c .before .before .before .before .before .before .before .before .before .before .before .before .before .before .before .loop .reached) (c .before .before .before .before .before .before .before .before .before .before .before .before .before .before .before .loop .found) (c .before .before .before .before .before .before .before .before .before .before .before .before .before .before .before .loop .t) (c .before .before .before .before .before .before .before .before .before .before .before .before .before .before .before .loop .inv .kept .ready) (c .before .before .before .before .before .before .before .before .before .before .before .before .before .before .before .before .before .before .before .before .pre .1 .1) (c .before .before .before .before .before .before .before .before .before .before .before .before .before .before .before .before .before .before .before .before .pre .1 .2) ((slots-lowest _ _ _ _ _ _ _ (c .before .before .before .before .before .before .before .before .before .before .before .before .before .before .before .before .candidates .ensures) _ _ (c .before .before .before .before .before .before .before .before .before .before .before .before .before .before .before .loop .inv) (c .before .before .before .before .before .before .before .before .before .before .before .before .before .before .loop-test .taken) _ (c .before .before .before .before .before .before .before .before .before .before .before .before .before .lowest .ensures)) .within) (c .before .before .before .if4 .taken) _ (reached-is (c .before .before .before .before .before .before .before .before .before .before .before .before .before .before .before .loop .reached) (c .before .before .before .before .before .before .before .before .before .before .before .before .before .before .before .loop .found) (c .before .before .before .before .before .before .before .before .before .before .before .before .before .before .before .loop .t) (c .before .before .before .before .before .before .before .before .before .before .before .before .before .lowest .result) (c .before .before .before .before .before .before .before .before .before .before .before .before .before .before .before .before .before .before .before .before .args .u .0) ((slots-lowest _ _ _ _ _ _ _ (c .before .before .before .before .before .before .before .before .before .before .before .before .before .before .before .before .candidates .ensures) _ _ (c .before .before .before .before .before .before .before .before .before .before .before .before .before .before .before .loop .inv) (c .before .before .before .before .before .before .before .before .before .before .before .before .before .before .loop-test .taken) _ (c .before .before .before .before .before .before .before .before .before .before .before .before .before .lowest .ensures)) .within)), c .before .before .before .before .before .before .before .before .before .before .before .before .before .before .before .loop .inv .kept .falls, c .before .before .before .before .before .before .before .before .before .before .before .before .before .before .before .before .before .before .before .before .pre .0), (c .before .before .before .before .before .before .before .before .before .before .before .before .before .before .before .before .before .before .before .before .pre .1 .0, (slots-lowest _ _ _ _ _ _ _ (c .before .before .before .before .before .before .before .before .before .before .before .before .before .before .before .before .candidates .ensures) _ _ (c .before .before .before .before .before .before .before .before .before .before .before .before .before .before .before .loop .inv) (c .before .before .before .before .before .before .before .before .before .before .before .before .before .before .loop-test .taken) _ (c .before .before .before .before .before .before .before .before .before .before .before .before .before .lowest .ensures)) .within, forward-ready (c .before .before .before .before .before .before .before .before .before .before .before .before .before .before .before .before .before .before .before .before .args .named .now) (c .before .before .before .before .before .before .before .before .before .before .before .before .before .before .before .before .before .before .before .before .args .dependencies .now) (c .before .before .before .before .before .before .before .before .before .before .before .before .before .before .before .before .before .before .before .before .args .n .0) (c .before .before .before .before .before .before .before .before .before .before .before .before .before .before .before .before .before .before .before .before .args .v .0) (c .before .before .before .before .before .before .before .before .before .before .before .before .before .before .before .before .before .before .before .before .args .u .0) (c .before .before .before .before .before .before .before .before .before .before .before .before .before .lowest .result) (c .before .before .before .before .before .before .before .before .before .before .before .before .before .before .before .loop .reached) (c .before .before .before .before .before .before .before .before .before .before .before .before .before .before .before .loop .found) (c .before .before .before .before .before .before .before .before .before .before .before .before .before .before .before .loop .t) (c .before .before .before .before .before .before .before .before .before .before .before .before .before .before .before .loop .inv .kept .ready) (c .before .before .before .before .before .before .before .before .before .before .before .before .before .before .before .before .before .before .before .before .pre .1 .1) (c .before .before .before .before .before .before .before .before .before .before .before .before .before .before .before .before .before .before .before .before .pre .1 .2) ((slots-lowest _ _ _ _ _ _ _ (c .before .before .before .before .before .before .before .before .before .before .before .before .before .before .before .before .candidates .ensures) _ _ (c .before .before .before .before .before .before .before .before .before .before .before .before .before .before .before .loop .inv) (c .before .before .before .before .before .before .before .before .before .before .before .before .before .before .loop-test .taken) _ (c .before .before .before .before .before .before .before .before .before .before .before .before .before .lowest .ensures)) .within) (c .before .before .before .if4 .taken) _ (reached-is (c .before .before .before .before .before .before .before .before .before .before .before .before .before .before .before .loop .reached) (c .before .before .before .before .before .before .before .before .before .before .before .before .before .before .before .loop .found) (c .before .before .before .before .before .before .before .before .before .before .before .before .before .before .before .loop .t) (c .before .before .before .before .before .before .before .before .before .before .before .before .before .lowest .result) (c .before .before .before .before .before .before .before .before .before .before .before .before .before .before .before .before .before .before .before .before .args .u .0) ((slots-lowest _ _ _ _ _ _ _ (c .before .before .before .before .before .before .before .before .before .before .before .before .before .before .before .before .candidates .ensures) _ _ (c .before .before .before .before .before .before .before .before .before .before .before .before .before .before .before .loop .inv) (c .before .before .before .before .before .before .before .before .before .before .before .before .before .before .loop-test .taken) _ (c .before .before .before .before .before .before .before .before .before .before .before .before .before .lowest .ensures)) .within))))
+    let h = slot-here (c .before .before .before .before .before .before .before .before .before .before .before .before .before .before .before .before .before .before .before .before .pre .1) (c .before .before .before .before .before .before .before .before .before .before .before .before .before .before .before .before .candidates .ensures) (c .before .before .before .before .before .before .before .before .before .before .before .before .before .before .before .loop .inv) (c .before .before .before .before .before .before .before .before .before .before .before .before .before .before .loop-test .taken) (c .before .before .before .before .before .before .before .before .before .before .before .before .before .lowest .ensures) in
+    (omega (arith, forward-falls h (c .before .before .before .if4 .taken), c .before .before .before .before .before .before .before .before .before .before .before .before .before .before .before .loop .inv .kept .falls, c .before .before .before .before .before .before .before .before .before .before .before .before .before .before .before .before .before .before .before .before .pre .0), (c .before .before .before .before .before .before .before .before .before .before .before .before .before .before .before .before .before .before .before .before .pre .1 .0, h .slot, forward-ready h (c .before .before .before .if4 .taken)))
 
 -- src/lib.rt:99:25
 visit-database-add-t-2 : (t : ℕ) → visit-database-lts.Need-add-t-2 (
@@ -545,7 +554,8 @@ visit-database-add-t-2 : (t : ℕ) → visit-database-lts.Need-add-t-2 (
   rest-reads.Learnt,
 ) (visit-database-at t) visit-database.Post visit-database-Inv-loop visit-database-μ-loop
 visit-database-add-t-2 t c =
-    let h : c .visit-job .result + 1 < 2 ^ 32 = return-fits (c .before .before .before .before .before .before .before .before .before .before .before .before .before .before .before .before .before .before .before .before .before .args .named .now) (c .before .before .before .before .before .before .before .before .before .before .before .before .before .before .before .before .before .before .before .before .before .args .dependencies .now) (c .before .before .before .before .before .before .before .before .before .before .before .before .before .before .before .before .before .before .before .before .before .args .n .0) (c .before .before .before .before .before .before .before .before .before .before .before .before .before .before .before .before .before .before .before .before .before .args .v .0) (c .before .before .before .before .before .before .before .before .before .before .before .before .before .before .before .before .before .before .before .before .before .args .u .0) (c .before .before .before .before .before .before .before .before .before .before .before .before .before .before .lowest .result) (c .before .before .before .before .before .before .before .before .before .before .before .before .before .before .before .before .loop .reached) (c .before .before .before .before .before .before .before .before .before .before .before .before .before .before .before .before .loop .found) (c .before .before .before .before .before .before .before .before .before .before .before .before .before .before .before .before .loop .t) (c .before .before .before .before .before .before .before .before .before .before .before .before .before .before .before .before .loop .inv .kept .ready) (c .before .before .before .before .before .before .before .before .before .before .before .before .before .before .before .before .before .before .before .before .before .pre .1 .1) (c .before .before .before .before .before .before .before .before .before .before .before .before .before .before .before .before .before .before .before .before .before .pre .1 .2) ((slots-lowest _ _ _ _ _ _ _ (c .before .before .before .before .before .before .before .before .before .before .before .before .before .before .before .before .before .candidates .ensures) _ _ (c .before .before .before .before .before .before .before .before .before .before .before .before .before .before .before .before .loop .inv) (c .before .before .before .before .before .before .before .before .before .before .before .before .before .before .before .loop-test .taken) _ (c .before .before .before .before .before .before .before .before .before .before .before .before .before .before .lowest .ensures)) .within) (c .before .before .before .before .if4 .taken) _ (reached-is (c .before .before .before .before .before .before .before .before .before .before .before .before .before .before .before .before .loop .reached) (c .before .before .before .before .before .before .before .before .before .before .before .before .before .before .before .before .loop .found) (c .before .before .before .before .before .before .before .before .before .before .before .before .before .before .before .before .loop .t) (c .before .before .before .before .before .before .before .before .before .before .before .before .before .before .lowest .result) (c .before .before .before .before .before .before .before .before .before .before .before .before .before .before .before .before .before .before .before .before .before .args .u .0) ((slots-lowest _ _ _ _ _ _ _ (c .before .before .before .before .before .before .before .before .before .before .before .before .before .before .before .before .before .candidates .ensures) _ _ (c .before .before .before .before .before .before .before .before .before .before .before .before .before .before .before .before .loop .inv) (c .before .before .before .before .before .before .before .before .before .before .before .before .before .before .before .loop-test .taken) _ (c .before .before .before .before .before .before .before .before .before .before .before .before .before .before .lowest .ensures)) .within)) _ _ _ (c .visit-job .ensures) in
+    let h = slot-here (c .before .before .before .before .before .before .before .before .before .before .before .before .before .before .before .before .before .before .before .before .before .pre .1) (c .before .before .before .before .before .before .before .before .before .before .before .before .before .before .before .before .before .candidates .ensures) (c .before .before .before .before .before .before .before .before .before .before .before .before .before .before .before .before .loop .inv) (c .before .before .before .before .before .before .before .before .before .before .before .before .before .before .before .loop-test .taken) (c .before .before .before .before .before .before .before .before .before .before .before .before .before .before .lowest .ensures) in
+    let f : c .visit-job .result + 1 < 2 ^ 32 = return-fits h (c .before .before .before .before .if4 .taken) _ _ _ (c .visit-job .ensures) in
     search needs
 
 -- src/lib.rt:103:9
@@ -572,7 +582,7 @@ visit-database-loop-less : (t : ℕ) → visit-database-lts.Need-loop-less (
   rest-reads.Asked,
   rest-reads.Learnt,
 ) (visit-database-at t) visit-database.Post visit-database-Inv-loop visit-database-μ-loop
-visit-database-loop-less t c = slots-falls _ _ _ _ _ _ _ (c .before .before .before .before .before .before .before .before .candidates .ensures) _ _ (c .before .before .before .before .before .before .before .loop .inv) (c .before .before .before .before .before .before .loop-test .taken) _ (c .before .before .before .before .before .lowest .ensures) _ (c .rest .ensures)
+visit-database-loop-less t c = slots-fall (c .before .before .before .before .before .before .before .before .before .before .before .before .pre .1) (c .before .before .before .before .before .before .before .before .candidates .ensures) (c .before .before .before .before .before .before .before .loop .inv) (c .before .before .before .before .before .before .loop-test .taken) (c .before .before .before .before .before .lowest .ensures) (c .rest .ensures)
 
 -- src/lib.rt:84:5
 visit-database-loop-again : (t : ℕ) → visit-database-lts.Need-loop-again (
@@ -586,14 +596,13 @@ visit-database-loop-again : (t : ℕ) → visit-database-lts.Need-loop-again (
   rest-reads.Learnt,
 ) (visit-database-at t) visit-database.Post visit-database-Inv-loop visit-database-μ-loop
 visit-database-loop-again t c =
-    slots-turn _ _ _ _ _ _ _ (c .before .before .before .before .before .before .before .before .candidates .ensures) _ _ (c .before .before .before .before .before .before .before .loop .inv) (c .before .before .before .before .before .before .loop-test .taken) _ (c .before .before .before .before .before .lowest .ensures) (c .before .before .before .before .before .before .before .before .before .before .before .before .pre .1 .1) (c .before .before .before .before .before .before .before .before .before .before .before .before .pre .1 .2) (c .before .before .before .before .before .before .before .before .before .before .before .before .pre .1 .3) _
-    (⊎-elim (λ w. seek-is (w .8) (w .9) (w .10) ∙ slot-closes (c .before .before .before .before .before .before .before .before .before .before .before .before .args .named .now) (c .before .before .before .before .before .before .before .before .before .before .before .before .args .dependencies .now) (c .before .before .before .before .before .before .before .before .before .before .before .before .args .n .0) (c .before .before .before .before .before .before .before .before .before .before .before .before .args .v .0) (c .before .before .before .before .before .before .before .before .before .before .before .before .args .u .0) (c .before .before .before .before .before .lowest .result) (c .before .before .before .before .before .before .before .loop .reached) (c .before .before .before .before .before .before .before .loop .found) (c .before .before .before .before .before .before .before .loop .t) (candidate _ _ _ _ _ _ _ (c .before .before .before .before .before .before .before .before .candidates .ensures) _ _ (c .before .before .before .before .before .before .before .loop .inv) (c .before .before .before .before .before .before .loop-test .taken) _ (c .before .before .before .before .before .lowest .ensures)) (w .0 .taken) (w .3 .taken) (w .6 .taken) _ (found-is (c .before .before .before .before .before .before .before .loop .reached) (c .before .before .before .before .before .before .before .loop .found) (c .before .before .before .before .before .before .before .loop .t) (c .before .before .before .before .before .before .before .before .before .before .before .before .args .v .0) (c .before .before .before .before .before .before .before .before .before .before .before .before .args .u .0) (c .before .before .before .before .before .before .before .before .before .before .before .before .pre .1 .1)))
-    (⊎-elim (λ w. seek-is (w .7) (w .8) (w .9) ∙ slot-found (c .before .before .before .before .before .before .before .before .before .before .before .before .args .named .now) (c .before .before .before .before .before .before .before .before .before .before .before .before .args .dependencies .now) (c .before .before .before .before .before .before .before .before .before .before .before .before .args .n .0) (c .before .before .before .before .before .before .before .before .before .before .before .before .args .v .0) (c .before .before .before .before .before .before .before .before .before .before .before .before .args .u .0) (c .before .before .before .before .before .lowest .result) (c .before .before .before .before .before .before .before .loop .reached) (c .before .before .before .before .before .before .before .loop .found) (c .before .before .before .before .before .before .before .loop .t) (candidate _ _ _ _ _ _ _ (c .before .before .before .before .before .before .before .before .candidates .ensures) _ _ (c .before .before .before .before .before .before .before .loop .inv) (c .before .before .before .before .before .before .loop-test .taken) _ (c .before .before .before .before .before .lowest .ensures)) (w .0 .taken) (w .3 .taken) (w .6 .left))
-    (⊎-elim (λ w. seek-is (w .11) (w .12) (w .13) ∙ slot-forward (c .before .before .before .before .before .before .before .before .before .before .before .before .args .named .now) (c .before .before .before .before .before .before .before .before .before .before .before .before .args .dependencies .now) (c .before .before .before .before .before .before .before .before .before .before .before .before .args .n .0) (c .before .before .before .before .before .before .before .before .before .before .before .before .args .v .0) (c .before .before .before .before .before .before .before .before .before .before .before .before .args .u .0) (c .before .before .before .before .before .lowest .result) (c .before .before .before .before .before .before .before .loop .reached) (c .before .before .before .before .before .before .before .loop .found) (c .before .before .before .before .before .before .before .loop .t) (candidate _ _ _ _ _ _ _ (c .before .before .before .before .before .before .before .before .candidates .ensures) _ _ (c .before .before .before .before .before .before .before .loop .inv) (c .before .before .before .before .before .before .loop-test .taken) _ (c .before .before .before .before .before .lowest .ensures)) (w .0 .taken) (w .3 .left) (w .6 .taken) _ (reached-is (c .before .before .before .before .before .before .before .loop .reached) (c .before .before .before .before .before .before .before .loop .found) (c .before .before .before .before .before .before .before .loop .t) (c .before .before .before .before .before .lowest .result) (c .before .before .before .before .before .before .before .before .before .before .before .before .args .u .0) ((slots-lowest _ _ _ _ _ _ _ (c .before .before .before .before .before .before .before .before .candidates .ensures) _ _ (c .before .before .before .before .before .before .before .loop .inv) (c .before .before .before .before .before .before .loop-test .taken) _ (c .before .before .before .before .before .lowest .ensures)) .within)) _ _ _ (w .10 .ensures))
-    (⊎-elim (λ w. seek-is (w .7) (w .8) (w .9) ∙ slot-reached (c .before .before .before .before .before .before .before .before .before .before .before .before .args .named .now) (c .before .before .before .before .before .before .before .before .before .before .before .before .args .dependencies .now) (c .before .before .before .before .before .before .before .before .before .before .before .before .args .n .0) (c .before .before .before .before .before .before .before .before .before .before .before .before .args .v .0) (c .before .before .before .before .before .before .before .before .before .before .before .before .args .u .0) (c .before .before .before .before .before .lowest .result) (c .before .before .before .before .before .before .before .loop .reached) (c .before .before .before .before .before .before .before .loop .found) (c .before .before .before .before .before .before .before .loop .t) (candidate _ _ _ _ _ _ _ (c .before .before .before .before .before .before .before .before .candidates .ensures) _ _ (c .before .before .before .before .before .before .before .loop .inv) (c .before .before .before .before .before .before .loop-test .taken) _ (c .before .before .before .before .before .lowest .ensures)) (w .0 .taken) (w .3 .left) (w .6 .left))
-    (λ w. seek-is (w .1) (w .2) (w .3) ∙ slot-held (c .before .before .before .before .before .before .before .before .before .before .before .before .args .named .now) (c .before .before .before .before .before .before .before .before .before .before .before .before .args .dependencies .now) (c .before .before .before .before .before .before .before .before .before .before .before .before .args .n .0) (c .before .before .before .before .before .before .before .before .before .before .before .before .args .v .0) (c .before .before .before .before .before .before .before .before .before .before .before .before .args .u .0) (c .before .before .before .before .before .lowest .result) (c .before .before .before .before .before .before .before .loop .reached) (c .before .before .before .before .before .before .before .loop .found) (c .before .before .before .before .before .before .before .loop .t) (candidate _ _ _ _ _ _ _ (c .before .before .before .before .before .before .before .before .candidates .ensures) _ _ (c .before .before .before .before .before .before .before .loop .inv) (c .before .before .before .before .before .before .loop-test .taken) _ (c .before .before .before .before .before .lowest .ensures)) (w .0 .left)))))
+    slots-turn (c .before .before .before .before .before .before .before .before .before .before .before .before .pre .1) (c .before .before .before .before .before .before .before .before .candidates .ensures) (c .before .before .before .before .before .before .before .loop .inv) (c .before .before .before .before .before .before .loop-test .taken) (c .before .before .before .before .before .lowest .ensures) (c .rest .ensures) _ (λ h.
+    ⊎-elim (λ w. seek-is (w .8) (w .9) (w .10) ∙ slot-closes h (w .0 .taken) (w .3 .taken) (w .6 .taken))
+    (⊎-elim (λ w. seek-is (w .7) (w .8) (w .9) ∙ slot-found h (w .0 .taken) (w .3 .taken) (w .6 .left))
+    (⊎-elim (λ w. seek-is (w .11) (w .12) (w .13) ∙ slot-forward h (w .0 .taken) (w .3 .left) (w .6 .taken) _ _ _ (w .10 .ensures))
+    (⊎-elim (λ w. seek-is (w .7) (w .8) (w .9) ∙ slot-reached h (w .0 .taken) (w .3 .left) (w .6 .left))
+    (λ w. seek-is (w .1) (w .2) (w .3) ∙ slot-held h (w .0 .left)))))
     (c .before .if1 .came))
-    _ (c .rest .ensures)
 
 -- src/lib.rt:68:1
 visit-database-returns : (t : ℕ) → visit-database-lts.Need-returns (
@@ -606,7 +615,7 @@ visit-database-returns : (t : ℕ) → visit-database-lts.Need-returns (
   rest-reads.Asked,
   rest-reads.Learnt,
 ) (visit-database-at t) visit-database.Post visit-database-Inv-loop visit-database-μ-loop
-visit-database-returns t c = slots-done _ _ _ _ _ _ _ (c .before .before .candidates .ensures) _ _ (c .before .loop .inv) (c .before .before .before .before .before .before .pre .1 .1) (c .before .before .before .before .before .before .pre .1 .2) (c .before .before .before .before .before .before .pre .1 .3) (c .before .before .before .before .before .before .pre .1 .4) (c .loop-test .left)
+visit-database-returns t c = slots-done (c .before .before .before .before .before .before .pre .1) (c .before .before .candidates .ensures) (c .before .loop .inv) (c .loop-test .left)
 
 abbrev visit-job-Inv-loop : visit-job-lts.InvT-loop
 visit-job-Inv-loop named dependencies reached₀ found₀ n v via moves t₀ u₀ reached found t u = AtDatabases named dependencies (n .0) (v .0) (via .0) (seek reached₀ found₀ t₀) (seek reached found t) u
@@ -669,7 +678,7 @@ visit-job-visit-database-requires : (t : ℕ) → visit-job-lts.Need-visit-datab
   visit-database.Post,
 ) (visit-job-at t) visit-job.Post visit-job-Inv-loop visit-job-μ-loop
 visit-job-visit-database-requires t c κs =
-    let k = databases-kept _ _ _ _ _ _ _ _ (c .before .before .before .before .before .before .before .before .loop .inv) (c .before .before .before .before .before .before .before .before .before .pre .1 .1) (c .before .before .before .before .before .before .before .before .before .pre .1 .2) in
+    let k = databases-kept (c .before .before .before .before .before .before .before .before .loop .inv) (c .before .before .before .before .before .before .before .before .before .pre .1 .1) (c .before .before .before .before .before .before .before .before .before .pre .1 .2) in
     (omega (arith, k .falls, c .before .before .before .before .before .before .before .before .before .pre .0), (c .before .before .before .before .before .before .before .before .before .pre .1 .0, c .before .before .before .before .before .before .before .before .before .pre .1 .1, c .before .before .before .before .before .before .before .loop-test .taken, eq-eqb _ _ (c .before .before .if2 .taken), k .ready))
 
 -- src/lib.rt:48:9
@@ -696,9 +705,9 @@ visit-job-loop-again : (t : ℕ) → visit-job-lts.Need-loop-again (
   visit-database.Post,
 ) (visit-job-at t) visit-job.Post visit-job-Inv-loop visit-job-μ-loop
 visit-job-loop-again t c =
-    ⊎-elim (λ w. turn-named _ _ _ _ _ _ _ _ (c .before .before .before .loop .inv) (c .before .before .loop-test .taken) _ (w .0 .taken) (w .3 .taken) (seek-is (w .7) (w .8) (w .9) ∙ w .6 .ensures))
-    (⊎-elim (λ w. turn-unnamed _ _ _ _ _ _ _ _ (c .before .before .before .loop .inv) (c .before .before .loop-test .taken) _ (w .3 .left) (seek-is (w .4) (w .5) (w .6)))
-    (λ w. turn-via _ _ _ _ _ _ _ _ (c .before .before .before .loop .inv) (c .before .before .loop-test .taken) _ (w .0 .left) (seek-is (w .1) (w .2) (w .3))))
+    ⊎-elim (λ w. turn-named (c .before .before .before .loop .inv) (c .before .before .loop-test .taken) (w .0 .taken) (w .3 .taken) (seek-is (w .7) (w .8) (w .9) ∙ w .6 .ensures))
+    (⊎-elim (λ w. turn-unnamed (c .before .before .before .loop .inv) (c .before .before .loop-test .taken) (w .3 .left) (seek-is (w .4) (w .5) (w .6)))
+    (λ w. turn-via (c .before .before .before .loop .inv) (c .before .before .loop-test .taken) (w .0 .left) (seek-is (w .1) (w .2) (w .3))))
     (c .if1 .came)
 
 -- src/lib.rt:34:1
@@ -706,7 +715,7 @@ visit-job-returns : (t : ℕ) → visit-job-lts.Need-returns (
   visit-database-below t,
   visit-database.Post,
 ) (visit-job-at t) visit-job.Post visit-job-Inv-loop visit-job-μ-loop
-visit-job-returns t c = job-done _ _ _ _ _ _ _ _ (c .before .loop .inv) (c .before .before .pre .1 .1) (c .before .before .pre .1 .2) (c .loop-test .left)
+visit-job-returns t c = databases-done (c .before .loop .inv) (c .before .before .pre .1 .1) (c .before .before .pre .1 .2) (c .loop-test .left)
 
 pub +visit-database+visit-job-spec : {M : Type 1} → statement M
 +visit-database+visit-job-spec = close μ-visit-database μ-visit-job (λ t. visit-database-lts.spec (
