@@ -1,16 +1,18 @@
 -- How many members: the sum over the members, what one more or less makes of it, and where it is 0 or the whole width. Assumes nothing.
 use mathlib.Core.Path.{_≡_, refl, sym, ap, ap₂, _∙_}
 use mathlib.Core.Bool.{Bool, true, false}
-use mathlib.Core.Logic.{_↔_}
+use mathlib.Core.Logic.{_⊎_, inl, inr, _↔_}
 use Prim.Native.Nat.{ℕ, zero, suc, _+_, _-_, _*_, _/_, _%_, _^_, _≤_, _<_}
 use native.Mathlib.Nat.{pow-suc, mul-one}
 use native.Mathlib.Omega.{arith}
-use borrow.Author.Tests.{eq-eqb, ne-eqb}
+use borrow.Author.Tests.{eq-eqb, ne-eqb, eqb-true}
 use lib.Arith.{lt-one}
 use lib.Count.{ones, onesIn, ones-step, ones-ones}
+use lib.Dec.{eqb}
 use lib.Pow.{pow-pos, ones-lt}
 use Rattle.loops.specs.Sum.{sum, tally}
 use Rattle.loops.proofs.Sums.{sum-first, sum-same, sum-at, sum-le, sum-mono, sum-zero, tally-le, tally-mono}
+use Rattle.loops.proofs.Tests.{or-cases}
 use Rattle.mask.specs.Member.{digit, holds, including, excluding, lowest, size}
 use Rattle.mask.specs.Lowest.{Free}
 use Rattle.mask.proofs.Digits.{digit-first, digit-suc}
@@ -63,6 +65,20 @@ size-excluding n m k l e =
     (sum-at n k 1 (λ j. tally (holds (excluding m k) j)) (λ j. tally (holds m j)) l
     (λ j h ne. rw (holds-excluding m k j, ne-eqb j k ne))
     (rw (holds-excluding m k k, eq-eqb k k refl, e)))
+
+-- a set within another that is no larger is all of it
+pub size-within : (n a b : ℕ) → ((j : ℕ) → holds a j ≡ true → holds b j ≡ true) → size n b ≤ size n a → (j : ℕ) → j < n → holds b j ≡ true → holds a j ≡ true
+size-within n a b h le j l e = by (holds a j) refl
+  where
+    in-b : (k : ℕ) → (eqb k j ≡ true) ⊎ (holds a k ≡ true) → holds b k ≡ true
+    in-b k (inl p) = rw (eqb-true k j p) e
+    in-b k (inr p) = h k p
+
+    by : (t : Bool) → holds a j ≡ t → t ≡ true
+    by true p = refl
+    by false p =
+        absurd
+        (omega (arith, size-including n a j l p, size-mono n (including a j) b (λ k q. in-b k (or-cases (eqb k j) (holds a k) (sym (holds-including a j k) ∙ q)))))
 
 -- ---- none, and all
 
