@@ -19,7 +19,9 @@ ghost use Rattle.coordinator.specs.Open.{added};
 pub(crate) fn free_slot(slots: u32) -> Slot
     ensures { λ r. ⌜ r .0 ≡ lowest jobs (2 ^ jobs - 1 - slots) ⌝ }
 {
-    Slot(mask::slots::lowest(!slots) as u8)
+    let free = !slots;
+    let low = mask::slots::lowest(free) as u8;
+    Slot(low)
 }
 
 // The job in slot n names the databases of its mask.

@@ -8,11 +8,11 @@ use Rattle.coordinator.proofs.enter.free_slot.Tie as tie
 lowest-requires : tie.Need-lowest-requires
 lowest-requires c κs = search needs
 
-cast-t4 : tie.Need-cast-t4
-cast-t4 c = omega (arith, c .lowest .ensures, lowest-at-most 32 (2 ^ 32 - 1 - c .before .args .slots))
+cast-low : tie.Need-cast-low
+cast-low c = omega (arith, c .lowest .ensures, lowest-at-most 32 (2 ^ 32 - 1 - c .before .args .slots))
 
 returns : tie.Need-returns
 returns c = search needs
 
 pub free-slot-spec : {M : Type 1} → statement M
-free-slot-spec = tie.close (tie.spec lowest-requires cast-t4 returns)
+free-slot-spec = tie.close (tie.spec lowest-requires cast-low returns)
