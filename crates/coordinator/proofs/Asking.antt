@@ -1,8 +1,8 @@
 -- What ask leaves, in each of the three ways that it ends. Assumes nothing.
 use mathlib.Core.Path.{_≡_}
-use mathlib.Core.Bool.{true, false}
+use mathlib.Core.Bool.{Bool, true, false}
 use mathlib.Core.List.{List}
-use mathlib.Core.Option.{none}
+use mathlib.Core.Option.{Option, none}
 use Prim.Native.Nat.{ℕ, _+_, _*_}
 use Rattle.mask.specs.Member.{less, within}
 use Rattle.coordinator.specs.declared.Coordinator.{Coordinator}
@@ -18,16 +18,18 @@ use Rattle.coordinator.specs.Ask.{askedFor, afterAsk}
 use Rattle.coordinator.proofs.Refusing.{refused}
 
 module _ (s : Coordinator) (t k : ℕ) where
-  pub ask-refused : (r : ℕ) → r ≡ numberOf (askRefusal s t k) → ¬ (r ≡ 0) → _≡_ {A = AfterAsk} (record { answer = AskAnswer.Refused r; state = s }) (afterAsk s t k)
+  pub ask-refused : (o : Option ℕ) → o ≡ askRefusal s t k → (r : ℕ) → r ≡ numberOf o → ¬ (r ≡ 0)
+      → _≡_ {A = AfterAsk} (record { answer = AskAnswer.Refused r; state = s }) (afterAsk s t k)
   unfolding afterAsk
-  ask-refused r e n = rw (afterAsk, refused (askRefusal s t k) r e n)
+  ask-refused o rows r e n = rw (afterAsk, ← rows, refused o r e n)
 
   accepted : (j : ℕ) → j ≡ holder s t → askRefusal s t k ≡ none → askedFor s j k ≡ afterAsk s t k
   unfolding afterAsk
   accepted j h e = rw (afterAsk, e, h)
 
-  module _ (j : ℕ) (taken : askRefusal s t k ≡ none) (slot : j ≡ holder s t) (asked : List ℕ) (marked : asked ≡ mark (s .asked) k j) where
-    pub ask-held : within jobs (entry (s .dependencies) (k * jobs + j)) (entry (s .confirmed) k) ≡ false
+  module _ (j : ℕ) (taken : askRefusal s t k ≡ none) (slot : j ≡ holder s t) (asked : List ℕ) (marked : asked ≡ mark (s .asked) k j) (goes : Bool)
+      (tested : goes ≡ within jobs (entry (s .dependencies) (k * jobs + j)) (entry (s .confirmed) k)) where
+    pub ask-held : goes ≡ false
         → _≡_ {A = AfterAsk}
         (record {
           answer = AskAnswer.Held;
@@ -45,9 +47,9 @@ module _ (s : Coordinator) (t k : ℕ) where
         })
         (afterAsk s t k)
     unfolding askedFor markAsked mayGo into
-    ask-held e = rw (← accepted j slot taken, askedFor, e, marked)
+    ask-held e = rw (← accepted j slot taken, askedFor, ← tested, e, marked)
 
-    pub ask-released : within jobs (entry (s .dependencies) (k * jobs + j)) (entry (s .confirmed) k) ≡ true
+    pub ask-released : goes ≡ true
         → (released : List ℕ) → released ≡ mark (s .released) k j → (later : ℕ) → later ≡ less jobs (entry (s .named) k) (entry released k)
         → (dependencies : List ℕ) → dependencies ≡ leadTo k j later (s .dependencies)
         → _≡_ {A = AfterAsk}
@@ -67,4 +69,4 @@ module _ (s : Coordinator) (t k : ℕ) where
         })
         (afterAsk s t k)
     unfolding askedFor markAsked mayGo into release markReleased withDependencies
-    ask-released e released p later q dependencies d = rw (← accepted j slot taken, askedFor, e, d, q, p, marked)
+    ask-released e released p later q dependencies d = rw (← accepted j slot taken, askedFor, ← tested, e, d, q, p, marked)

@@ -1,7 +1,7 @@
 -- What confirm leaves, in each of the three ways that it ends. Assumes nothing.
 use mathlib.Core.Path.{_≡_, sym}
 use mathlib.Core.List.{List}
-use mathlib.Core.Option.{none}
+use mathlib.Core.Option.{Option, none}
 use Prim.Native.Nat.{ℕ}
 use borrow.Author.Tests.{eq-eqb, ne-eqb}
 use Rattle.mask.specs.Member.{less, lowest}
@@ -19,10 +19,10 @@ use Rattle.coordinator.specs.Tables.{goingIn}
 use Rattle.coordinator.proofs.Refusing.{refused}
 
 module _ (s : Coordinator) (t k : ℕ) where
-  pub confirm-refused : (r : ℕ) → r ≡ numberOf (confirmRefusal s t k) → ¬ (r ≡ 0)
+  pub confirm-refused : (o : Option ℕ) → o ≡ confirmRefusal s t k → (r : ℕ) → r ≡ numberOf o → ¬ (r ≡ 0)
       → _≡_ {A = AfterConfirm} (record { answer = ConfirmAnswer.Refused r; state = s }) (afterConfirm s t k)
   unfolding afterConfirm
-  confirm-refused r e n = rw (afterConfirm, refused (confirmRefusal s t k) r e n)
+  confirm-refused o rows r e n = rw (afterConfirm, ← rows, refused o r e n)
 
   accepted : (j : ℕ) → j ≡ holder s t → confirmRefusal s t k ≡ none → confirmedAt s j k ≡ afterConfirm s t k
   unfolding afterConfirm

@@ -2,7 +2,7 @@
 use mathlib.Core.Path.{_≡_, refl, sym, _∙_}
 use mathlib.Core.Bool.{Bool, not, _||_}
 use mathlib.Core.List.{[]}
-use mathlib.Core.Option.{none}
+use mathlib.Core.Option.{Option, none}
 use Prim.Native.Nat.{ℕ, _^_, _<_}
 use native.Mathlib.Omega.{arith}
 use borrow.Author.Tests.{eqb-false, ltb-true, not-false}
@@ -67,10 +67,6 @@ module _ {s : Coordinator} {t : ℕ} {b : Bool} {f j : ℕ} (r : Read s t b f j)
   pub slot-below : ¬ (f ≡ 0) → j < jobs
   slot-below n = rw (r .slot) (holder-below s t (λ q. n (r .found ∙ q)))
 
-  -- what changing the tables asks for
-  pub step-fits : (k : ℕ) (names applies : Bool) (m x : ℕ) → ¬ (m ≡ 0) → x ≡ numberOf (stepRefusal b f k names applies m) → x ≡ 0 → (k < databases) × (j < jobs)
-  step-fits k names applies m x n e z = let p = step-passed b f k names applies m n (sym e ∙ z) in (p .database, slot-below (p .some-hold))
-
   -- the rows that the code goes down are the call's
   pub ask-rows : (k : ℕ) (names applies : Bool) → names ≡ holds (entry (s .named) k) j → applies ≡ holds (entry (s .asked) k) j
       → stepRefusal b f k names applies 6 ≡ askRefusal s t k
@@ -81,3 +77,16 @@ module _ {s : Coordinator} {t : ℕ} {b : Bool} {f j : ℕ} (r : Read s t b f j)
       → applies ≡ not (holds (entry (s .released) k) j) || holds (entry (s .confirmed) k) j → stepRefusal b f k names applies 7 ≡ confirmRefusal s t k
   unfolding stepRefusal confirmRefusal inMask released confirmed
   confirm-rows k names applies p q = rw (p, q, r .soundness, r .found, r .slot)
+
+-- ---- a call that is not refused: o is its refusal, and what it changes is in range
+
+pub record Accepted (o : Option ℕ) (s : Coordinator) (t k j : ℕ) : Type 0 where
+  pub none-applies : o ≡ none
+  pub slot : j ≡ holder s t
+  pub fits : (k < databases) × (j < jobs)
+
+pub step-accepted : {s : Coordinator} {t : ℕ} {b : Bool} {f j : ℕ} → Read s t b f j → (k : ℕ) (names applies : Bool) (m x : ℕ) → ¬ (m ≡ 0) → (o : Option ℕ)
+    → stepRefusal b f k names applies m ≡ o → x ≡ numberOf (stepRefusal b f k names applies m) → x ≡ 0 → Accepted o s t k j
+step-accepted {b = b} {f = f} r k names applies m x n o rows e z =
+    let p = step-passed b f k names applies m n (sym e ∙ z) in
+    record { none-applies = sym rows ∙ p .none-applies; slot = r .slot; fits = (p .database, slot-below r (p .some-hold)) }

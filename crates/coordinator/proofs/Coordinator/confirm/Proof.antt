@@ -1,7 +1,6 @@
-use mathlib.Core.Path.{sym, ap, _∙_}
 use native.Mathlib.Omega.{arith}
-use Rattle.coordinator.specs.Refusal.{numberOf}
-use Rattle.coordinator.proofs.Step.{read, step-passed, step-fits, confirm-rows}
+use Rattle.coordinator.specs.Refusal.{confirmRefusal}
+use Rattle.coordinator.proofs.Step.{read, confirm-rows, Accepted, step-accepted}
 use Rattle.coordinator.proofs.Going.{first-below}
 use Rattle.coordinator.proofs.Confirming.{confirm-refused, confirm-nothing, confirm-released}
 use borrow.Author.Needs.{needs}
@@ -21,6 +20,13 @@ use Rattle.coordinator.proofs.release.waiting.Reads as waiting-reads
 use Rattle.coordinator.proofs.sound.all_sound.Reads as all-sound-reads
 use Rattle.coordinator.proofs.views.holds_at.Reads as holds-at-reads
 use Rattle.coordinator.proofs.views.ticket.Reads as ticket-reads
+
+-- what refusal number 0 tells where the tables are changed
+accepted : (c : lts.Then1 (all-sound-reads.Asked, all-sound-reads.Learnt, holders-of-reads.Asked, holders-of-reads.Learnt, holder-reads.Asked, holder-reads.Learnt, holds-at-reads.Asked, holds-at-reads.Learnt, is-settled-reads.Asked, is-settled-reads.Learnt, of-step-reads.Asked, of-step-reads.Learnt, mark-reads.Asked, mark-reads.Learnt, may-go-at-reads.Asked, may-go-at-reads.Learnt, first-of-reads.Asked, first-of-reads.Learnt, ticket-reads.Asked, ticket-reads.Learnt, waiting-reads.Asked, waiting-reads.Learnt, lead-to-reads.Asked, lead-to-reads.Learnt) reads.Pre reads.Post)
+    → Accepted (confirmRefusal (c .before .before .before .before .before .before .before .before .before .before .before .before .before .before .before .before .before .before .before .before .before .before .before .args .t1) (c .before .before .before .before .before .before .before .before .before .before .before .before .before .before .before .before .before .before .before .before .before .before .before .args .ticket .0) (c .before .before .before .before .before .before .before .before .before .before .before .before .before .before .before .before .before .before .before .before .before .before .before .args .database .0)) (c .before .before .before .before .before .before .before .before .before .before .before .before .before .before .before .before .before .before .before .before .before .before .before .args .t1) (c .before .before .before .before .before .before .before .before .before .before .before .before .before .before .before .before .before .before .before .before .before .before .before .args .ticket .0) (c .before .before .before .before .before .before .before .before .before .before .before .before .before .before .before .before .before .before .before .before .before .before .before .args .database .0) (c .before .before .before .before .before .before .before .before .before .holder .result .0)
+accepted c =
+    let r = (read (c .before .before .before .before .before .before .before .before .before .before .before .before .before .before .before .before .before .before .before .before .before .before .before .args .t1) (c .before .before .before .before .before .before .before .before .before .before .before .before .before .before .before .before .before .before .before .before .before .before .before .args .ticket .0) _ _ _ (c .before .before .before .before .before .before .before .before .before .before .before .before .before .before .all-sound .ensures) (c .before .before .before .before .before .before .before .before .before .before .holders-of .ensures) (c .before .before .before .before .before .before .before .before .before .holder .ensures)) in
+    step-accepted r _ _ _ 7 _ (λ z. omega arith) _ (confirm-rows r _ _ _ (c .before .before .before .before .before .before .holds-at .ensures) (c .before .before .is-settled .ensures)) (c .before .of-step .ensures) (c .if1 .taken)
 
 -- src/confirm.rt:42:13
 all-sound-requires : tie.Need-all-sound-requires
@@ -48,11 +54,11 @@ of-step-requires c κs = search needs
 
 -- src/confirm.rt:60:13
 mark-requires : tie.Need-mark-requires
-mark-requires c κs = step-fits (read (c .before .before .before .before .before .before .before .before .before .before .before .before .before .before .before .before .before .before .before .before .before .before .before .before .args .t1) (c .before .before .before .before .before .before .before .before .before .before .before .before .before .before .before .before .before .before .before .before .before .before .before .before .args .ticket .0) _ _ _ (c .before .before .before .before .before .before .before .before .before .before .before .before .before .before .before .all-sound .ensures) (c .before .before .before .before .before .before .before .before .before .before .before .holders-of .ensures) (c .before .before .before .before .before .before .before .before .before .before .holder .ensures)) _ _ _ 7 _ (λ z. omega arith) (c .before .before .of-step .ensures) (c .before .if1 .taken)
+mark-requires c κs = accepted (c .before) .fits
 
 -- src/confirm.rt:61:17
 may-go-at-requires : tie.Need-may-go-at-requires
-may-go-at-requires c κs = step-fits (read (c .before .before .before .before .before .before .before .before .before .before .before .before .before .before .before .before .before .before .before .before .before .before .before .before .before .before .before .before .before .before .args .t1) (c .before .before .before .before .before .before .before .before .before .before .before .before .before .before .before .before .before .before .before .before .before .before .before .before .before .before .before .before .before .before .args .ticket .0) _ _ _ (c .before .before .before .before .before .before .before .before .before .before .before .before .before .before .before .before .before .before .before .before .before .all-sound .ensures) (c .before .before .before .before .before .before .before .before .before .before .before .before .before .before .before .before .before .holders-of .ensures) (c .before .before .before .before .before .before .before .before .before .before .before .before .before .before .before .before .holder .ensures)) _ _ _ 7 _ (λ z. omega arith) (c .before .before .before .before .before .before .before .before .of-step .ensures) (c .before .before .before .before .before .before .before .if1 .taken) .0
+may-go-at-requires c κs = accepted (c .before .before .before .before .before .before .before) .fits .0
 
 -- src/confirm.rt:69:21
 first-of-requires : tie.Need-first-of-requires
@@ -64,27 +70,27 @@ ticket-requires c κs = first-below _ _ _ _ _ _ _ (c .before .before .before .be
 
 -- src/confirm.rt:71:17
 mark-requires-2 : tie.Need-mark-requires-2
-mark-requires-2 c κs = (step-fits (read (c .before .before .before .before .before .before .before .before .before .before .before .before .before .before .before .before .before .before .before .before .before .before .before .before .before .before .before .before .before .before .before .before .before .before .before .before .before .args .t1) (c .before .before .before .before .before .before .before .before .before .before .before .before .before .before .before .before .before .before .before .before .before .before .before .before .before .before .before .before .before .before .before .before .before .before .before .before .before .args .ticket .0) _ _ _ (c .before .before .before .before .before .before .before .before .before .before .before .before .before .before .before .before .before .before .before .before .before .before .before .before .before .before .before .before .all-sound .ensures) (c .before .before .before .before .before .before .before .before .before .before .before .before .before .before .before .before .before .before .before .before .before .before .before .before .holders-of .ensures) (c .before .before .before .before .before .before .before .before .before .before .before .before .before .before .before .before .before .before .before .before .before .before .before .holder .ensures)) _ _ _ 7 _ (λ z. omega arith) (c .before .before .before .before .before .before .before .before .before .before .before .before .before .before .before .of-step .ensures) (c .before .before .before .before .before .before .before .before .before .before .before .before .before .before .if1 .taken) .0, first-below _ _ _ _ _ _ _ (c .before .before .before .before .before .before .may-go-at .ensures) (c .before .before .before .before .before .if2 .taken) (c .before .before .before .before .first-of .ensures))
+mark-requires-2 c κs = (accepted (c .before .before .before .before .before .before .before .before .before .before .before .before .before .before) .fits .0, first-below _ _ _ _ _ _ _ (c .before .before .before .before .before .before .may-go-at .ensures) (c .before .before .before .before .before .if2 .taken) (c .before .before .before .before .first-of .ensures))
 
 -- src/confirm.rt:72:21
 waiting-requires : tie.Need-waiting-requires
-waiting-requires c κs = step-fits (read (c .before .before .before .before .before .before .before .before .before .before .before .before .before .before .before .before .before .before .before .before .before .before .before .before .before .before .before .before .before .before .before .before .before .before .before .before .before .before .before .before .before .args .t1) (c .before .before .before .before .before .before .before .before .before .before .before .before .before .before .before .before .before .before .before .before .before .before .before .before .before .before .before .before .before .before .before .before .before .before .before .before .before .before .before .before .before .args .ticket .0) _ _ _ (c .before .before .before .before .before .before .before .before .before .before .before .before .before .before .before .before .before .before .before .before .before .before .before .before .before .before .before .before .before .before .before .before .all-sound .ensures) (c .before .before .before .before .before .before .before .before .before .before .before .before .before .before .before .before .before .before .before .before .before .before .before .before .before .before .before .before .holders-of .ensures) (c .before .before .before .before .before .before .before .before .before .before .before .before .before .before .before .before .before .before .before .before .before .before .before .before .before .before .before .holder .ensures)) _ _ _ 7 _ (λ z. omega arith) (c .before .before .before .before .before .before .before .before .before .before .before .before .before .before .before .before .before .before .before .of-step .ensures) (c .before .before .before .before .before .before .before .before .before .before .before .before .before .before .before .before .before .before .if1 .taken) .0
+waiting-requires c κs = accepted (c .before .before .before .before .before .before .before .before .before .before .before .before .before .before .before .before .before .before) .fits .0
 
 -- src/confirm.rt:73:17
 lead-to-requires : tie.Need-lead-to-requires
-lead-to-requires c κs = (step-fits (read (c .before .before .before .before .before .before .before .before .before .before .before .before .before .before .before .before .before .before .before .before .before .before .before .before .before .before .before .before .before .before .before .before .before .before .before .before .before .before .before .before .before .before .before .args .t1) (c .before .before .before .before .before .before .before .before .before .before .before .before .before .before .before .before .before .before .before .before .before .before .before .before .before .before .before .before .before .before .before .before .before .before .before .before .before .before .before .before .before .before .before .args .ticket .0) _ _ _ (c .before .before .before .before .before .before .before .before .before .before .before .before .before .before .before .before .before .before .before .before .before .before .before .before .before .before .before .before .before .before .before .before .before .before .all-sound .ensures) (c .before .before .before .before .before .before .before .before .before .before .before .before .before .before .before .before .before .before .before .before .before .before .before .before .before .before .before .before .before .before .holders-of .ensures) (c .before .before .before .before .before .before .before .before .before .before .before .before .before .before .before .before .before .before .before .before .before .before .before .before .before .before .before .before .before .holder .ensures)) _ _ _ 7 _ (λ z. omega arith) (c .before .before .before .before .before .before .before .before .before .before .before .before .before .before .before .before .before .before .before .before .before .of-step .ensures) (c .before .before .before .before .before .before .before .before .before .before .before .before .before .before .before .before .before .before .before .before .if1 .taken) .0, first-below _ _ _ _ _ _ _ (c .before .before .before .before .before .before .before .before .before .before .before .before .may-go-at .ensures) (c .before .before .before .before .before .before .before .before .before .before .before .if2 .taken) (c .before .before .before .before .before .before .before .before .before .before .first-of .ensures))
+lead-to-requires c κs = (accepted (c .before .before .before .before .before .before .before .before .before .before .before .before .before .before .before .before .before .before .before .before) .fits .0, first-below _ _ _ _ _ _ _ (c .before .before .before .before .before .before .before .before .before .before .before .before .may-go-at .ensures) (c .before .before .before .before .before .before .before .before .before .before .before .if2 .taken) (c .before .before .before .before .before .before .before .before .before .before .first-of .ensures))
 
 -- src/confirm.rt:39:5
 returns : tie.Need-returns
-returns c = confirm-released _ _ _ _ (sym (confirm-rows (read (c .before .before .before .before .before .before .before .before .before .before .before .before .before .before .before .before .before .before .before .before .before .before .before .before .before .before .before .before .before .before .before .before .before .before .before .before .before .before .before .before .before .before .before .before .args .t1) (c .before .before .before .before .before .before .before .before .before .before .before .before .before .before .before .before .before .before .before .before .before .before .before .before .before .before .before .before .before .before .before .before .before .before .before .before .before .before .before .before .before .before .before .before .args .ticket .0) _ _ _ (c .before .before .before .before .before .before .before .before .before .before .before .before .before .before .before .before .before .before .before .before .before .before .before .before .before .before .before .before .before .before .before .before .before .before .before .all-sound .ensures) (c .before .before .before .before .before .before .before .before .before .before .before .before .before .before .before .before .before .before .before .before .before .before .before .before .before .before .before .before .before .before .before .holders-of .ensures) (c .before .before .before .before .before .before .before .before .before .before .before .before .before .before .before .before .before .before .before .before .before .before .before .before .before .before .before .before .before .before .holder .ensures)) (c .before .before .before .before .before .before .before .before .before .before .before .before .before .before .before .before .before .before .before .before .before .before .before .before .before .before .before .before .before .before .before .before .before .before .before .before .before .before .before .before .before .before .before .before .args .database .0) _ _ (c .before .before .before .before .before .before .before .before .before .before .before .before .before .before .before .before .before .before .before .before .before .before .before .before .before .before .before .holds-at .ensures) (c .before .before .before .before .before .before .before .before .before .before .before .before .before .before .before .before .before .before .before .before .before .before .before .is-settled .ensures)) ∙ step-passed _ _ _ _ _ 7 (λ z. omega arith) (sym (c .before .before .before .before .before .before .before .before .before .before .before .before .before .before .before .before .before .before .before .before .before .before .of-step .ensures) ∙ c .before .before .before .before .before .before .before .before .before .before .before .before .before .before .before .before .before .before .before .before .before .if1 .taken) .none-applies) (read (c .before .before .before .before .before .before .before .before .before .before .before .before .before .before .before .before .before .before .before .before .before .before .before .before .before .before .before .before .before .before .before .before .before .before .before .before .before .before .before .before .before .before .before .before .args .t1) (c .before .before .before .before .before .before .before .before .before .before .before .before .before .before .before .before .before .before .before .before .before .before .before .before .before .before .before .before .before .before .before .before .before .before .before .before .before .before .before .before .before .before .before .before .args .ticket .0) _ _ _ (c .before .before .before .before .before .before .before .before .before .before .before .before .before .before .before .before .before .before .before .before .before .before .before .before .before .before .before .before .before .before .before .before .before .before .before .all-sound .ensures) (c .before .before .before .before .before .before .before .before .before .before .before .before .before .before .before .before .before .before .before .before .before .before .before .before .before .before .before .before .before .before .before .holders-of .ensures) (c .before .before .before .before .before .before .before .before .before .before .before .before .before .before .before .before .before .before .before .before .before .before .before .before .before .before .before .before .before .before .holder .ensures) .slot) _ (c .before .before .before .before .before .before .before .before .before .before .before .before .before .before .before .before .before .before .before .mark .ensures) _ (c .before .before .before .before .before .before .before .before .before .before .before .before .before .may-go-at .ensures) (c .before .before .before .before .before .before .before .before .before .before .before .before .if2 .taken) _ (c .before .before .before .before .before .before .before .before .before .before .before .first-of .ensures) _ (c .before .before .before .before .before .before .before .before .ticket .ensures) _ (c .before .before .before .before .before .before .mark2 .ensures) _ (c .before .before .waiting .ensures) _ (c .lead-to .ensures)
+returns c = let a = accepted (c .before .before .before .before .before .before .before .before .before .before .before .before .before .before .before .before .before .before .before .before .before) in confirm-released _ _ _ _ (a .none-applies) (a .slot) _ (c .before .before .before .before .before .before .before .before .before .before .before .before .before .before .before .before .before .before .before .mark .ensures) _ (c .before .before .before .before .before .before .before .before .before .before .before .before .before .may-go-at .ensures) (c .before .before .before .before .before .before .before .before .before .before .before .before .if2 .taken) _ (c .before .before .before .before .before .before .before .before .before .before .before .first-of .ensures) _ (c .before .before .before .before .before .before .before .before .ticket .ensures) _ (c .before .before .before .before .before .before .mark2 .ensures) _ (c .before .before .waiting .ensures) _ (c .lead-to .ensures)
 
 -- src/confirm.rt:39:5
 returns-2 : tie.Need-returns-2
-returns-2 c = confirm-nothing _ _ _ _ (sym (confirm-rows (read (c .before .before .before .before .before .before .before .before .before .before .before .before .before .before .before .before .before .before .before .before .before .before .before .before .before .before .before .before .before .before .before .before .args .t1) (c .before .before .before .before .before .before .before .before .before .before .before .before .before .before .before .before .before .before .before .before .before .before .before .before .before .before .before .before .before .before .before .before .args .ticket .0) _ _ _ (c .before .before .before .before .before .before .before .before .before .before .before .before .before .before .before .before .before .before .before .before .before .before .before .all-sound .ensures) (c .before .before .before .before .before .before .before .before .before .before .before .before .before .before .before .before .before .before .before .holders-of .ensures) (c .before .before .before .before .before .before .before .before .before .before .before .before .before .before .before .before .before .before .holder .ensures)) (c .before .before .before .before .before .before .before .before .before .before .before .before .before .before .before .before .before .before .before .before .before .before .before .before .before .before .before .before .before .before .before .before .args .database .0) _ _ (c .before .before .before .before .before .before .before .before .before .before .before .before .before .before .before .holds-at .ensures) (c .before .before .before .before .before .before .before .before .before .before .before .is-settled .ensures)) ∙ step-passed _ _ _ _ _ 7 (λ z. omega arith) (sym (c .before .before .before .before .before .before .before .before .before .before .of-step .ensures) ∙ c .before .before .before .before .before .before .before .before .before .if1 .taken) .none-applies) (read (c .before .before .before .before .before .before .before .before .before .before .before .before .before .before .before .before .before .before .before .before .before .before .before .before .before .before .before .before .before .before .before .before .args .t1) (c .before .before .before .before .before .before .before .before .before .before .before .before .before .before .before .before .before .before .before .before .before .before .before .before .before .before .before .before .before .before .before .before .args .ticket .0) _ _ _ (c .before .before .before .before .before .before .before .before .before .before .before .before .before .before .before .before .before .before .before .before .before .before .before .all-sound .ensures) (c .before .before .before .before .before .before .before .before .before .before .before .before .before .before .before .before .before .before .before .holders-of .ensures) (c .before .before .before .before .before .before .before .before .before .before .before .before .before .before .before .before .before .before .holder .ensures) .slot) _ (c .before .before .before .before .before .before .before .mark .ensures) _ (c .before .may-go-at .ensures) (c .if2 .left)
+returns-2 c = let a = accepted (c .before .before .before .before .before .before .before .before .before) in confirm-nothing _ _ _ _ (a .none-applies) (a .slot) _ (c .before .before .before .before .before .before .before .mark .ensures) _ (c .before .may-go-at .ensures) (c .if2 .left)
 
 -- src/confirm.rt:39:5
 returns-3 : tie.Need-returns-3
-returns-3 c = confirm-refused _ _ _ _ (c .before .of-step .ensures ∙ ap numberOf (confirm-rows (read (c .before .before .before .before .before .before .before .before .before .before .before .before .before .before .before .before .before .before .before .before .before .before .before .args .t1) (c .before .before .before .before .before .before .before .before .before .before .before .before .before .before .before .before .before .before .before .before .before .before .before .args .ticket .0) _ _ _ (c .before .before .before .before .before .before .before .before .before .before .before .before .before .before .all-sound .ensures) (c .before .before .before .before .before .before .before .before .before .before .holders-of .ensures) (c .before .before .before .before .before .before .before .before .before .holder .ensures)) (c .before .before .before .before .before .before .before .before .before .before .before .before .before .before .before .before .before .before .before .before .before .before .before .args .database .0) _ _ (c .before .before .before .before .before .before .holds-at .ensures) (c .before .before .is-settled .ensures))) (c .if1 .left)
+returns-3 c = let r = read (c .before .before .before .before .before .before .before .before .before .before .before .before .before .before .before .before .before .before .before .before .before .before .before .args .t1) (c .before .before .before .before .before .before .before .before .before .before .before .before .before .before .before .before .before .before .before .before .before .before .before .args .ticket .0) _ _ _ (c .before .before .before .before .before .before .before .before .before .before .before .before .before .before .all-sound .ensures) (c .before .before .before .before .before .before .before .before .before .before .holders-of .ensures) (c .before .before .before .before .before .before .before .before .before .holder .ensures) in confirm-refused _ _ _ _ (confirm-rows r _ _ _ (c .before .before .before .before .before .before .holds-at .ensures) (c .before .before .is-settled .ensures)) _ (c .before .of-step .ensures) (c .if1 .left)
 
 pub confirm-spec : {M : Type 1} → statement M
 confirm-spec =
