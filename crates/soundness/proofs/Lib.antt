@@ -16,3 +16,4 @@ pub mod Open
 pub mod Accepted
 pub mod Arms
 pub mod Calls
+pub mod Refused

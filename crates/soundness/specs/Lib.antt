@@ -4,3 +4,4 @@ pub mod Changed
 pub mod GivenOut
 pub mod Accepted
 pub mod Kept
+pub mod Refused
