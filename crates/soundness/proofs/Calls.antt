@@ -108,7 +108,7 @@ confirm-kept s K t k = by (confirmRefusal s t k) refl
 
 -- ---- close
 
-one-closed : (c : Closing) → Kept (c .state) → (j : ℕ) → isOpen (c .state) j ≡ true → Kept (closeOne c j .state)
+pub one-closed : (c : Closing) → Kept (c .state) → (j : ℕ) → isOpen (c .state) j ≡ true → Kept (closeOne c j .state)
 unfolding closeOne
 one-closed c (h, S) j o = kept (removed-sound (c .state) h S j o)
 
@@ -121,7 +121,7 @@ held-open s S j e = by (isOpen s j) refl
     by false o = both e (S .free-zeros j o .not-held)
 
 -- the first of the held closes that may go
-first-open : (s : Coordinator) → Sound s → ¬ (mayCloseNow s ≡ 0) → isOpen s (firstOf s (mayCloseNow s)) ≡ true
+pub first-open : (s : Coordinator) → Sound s → ¬ (mayCloseNow s ≡ 0) → isOpen s (firstOf s (mayCloseNow s)) ≡ true
 first-open s S any =
     let j : ℕ = firstOf s (mayCloseNow s) in
     let (l, m) = first-of s (mayCloseNow s) (may-close-now-small s) any in
