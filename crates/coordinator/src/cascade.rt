@@ -17,12 +17,12 @@ pub(crate) fn close_from(mut s: Coordinator, found: u32) -> AfterClose
     ensures { λ r. ⌜ r ≡ afterClosing (closing s (lowest jobs found)) ⌝ }
 {
     let mut tickets = [0u16; Coordinator::JOBS];
-    let mut count = 0u32;
+    let mut count = 0usize;
     let mut next = found;
     while next != 0 {
         let j = release::first_of(next);
         let at = j.0 as usize;
-        tickets[count as usize] = s.tickets[at];
+        tickets[count] = s.tickets[at];
         count = count + 1;
         s.tickets[at] = 0;
         s.held = mask::slots::without_member(s.held, j.0);
@@ -37,7 +37,7 @@ pub(crate) fn close_from(mut s: Coordinator, found: u32) -> AfterClose
         next = may_close::may_close_now(&s.dependencies, s.held);
     }
     AfterClose {
-        answer: CloseAnswer::Closed(count),
+        answer: CloseAnswer::Closed(count as u32),
         tickets: tickets,
         state: s,
     }

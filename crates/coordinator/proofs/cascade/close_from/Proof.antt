@@ -1,4 +1,4 @@
-use Prim.Native.Nat.{ℕ, _-_, _<_}
+use Prim.Native.Nat.{ℕ, _-_, _^_, _<_}
 use native.Mathlib.Omega.{arith}
 use borrow.Author.Needs.{needs}
 use mathlib.Core.Path.{_≡_, refl, sym, ap, _∙_}
@@ -37,17 +37,13 @@ first-of-requires c κs = search needs
 cast-at : tie.Need-cast-at Inv-loop μ-loop
 cast-at c = search needs
 
--- src/cascade.rt:25:35
+-- src/cascade.rt:25:26
 mul-tickets : tie.Need-mul-tickets Inv-loop μ-loop
 mul-tickets c = search needs
 
--- src/cascade.rt:25:35
+-- src/cascade.rt:25:26
 element-copy-out-tickets : tie.Need-element-copy-out-tickets Inv-loop μ-loop
 element-copy-out-tickets c = going-slot (c .before .before .before .loop .inv) (c .before .before .loop-test .taken) _ (c .before .first-of .ensures)
-
--- src/cascade.rt:25:17
-cast-tickets : tie.Need-cast-tickets Inv-loop μ-loop
-cast-tickets c = search needs
 
 -- src/cascade.rt:25:9
 mul-tickets-2 : tie.Need-mul-tickets-2 Inv-loop μ-loop
@@ -117,6 +113,10 @@ loop-less c = omega (arith, going-room (c .before .before .before .before .befor
 loop-again : tie.Need-loop-again Inv-loop μ-loop
 loop-again c = going-turn (c .before .before .before .before .before .before .before .before .before .before .before .before .before .before .before .before .before .before .before .before .before .before .before .before .before .loop .inv) (c .before .before .before .before .before .before .before .before .before .before .before .before .before .before .before .before .before .before .before .before .before .before .before .before .loop-test .taken) _ _ _ (removed-made _ _ _ (c .before .before .before .before .before .before .before .before .before .before .before .before .before .before .before .before .before .before .before .before .before .before .before .first-of .ensures) _ _ _ _ _ _ _ _ _ (c .before .before .before .before .before .before .before .before .before .before .before .before .before .before .before .before .before .before .before .before .without-member .ensures) (c .before .before .before .before .before .before .before .before .before .before .before .before .before .before .before .before .before .place .ensures) (c .before .before .before .before .before .before .before .before .before .before .before .before .before .before .before .moved-up .ensures) (c .before .before .before .before .before .before .before .before .before .before .before .before .before .strike .ensures) (c .before .before .before .before .before .before .before .before .before .before .before .strike2 .ensures) (c .before .before .before .before .before .before .before .before .before .strike3 .ensures) (c .before .before .before .before .before .before .before .strike4 .ensures) (c .before .before .before .before .before .strike-rows .ensures) (c .before .before .before .unlead .ensures)) (rw (c .before .before .before .before .before .before .before .before .before .before .before .before .before .before .before .before .before .before .before .before .before .before .before .first-of .ensures)) (c .may-close-now .ensures)
 
+-- src/cascade.rt:40:37
+cast-t33 : tie.Need-cast-t33 Inv-loop μ-loop
+cast-t33 c = let l : c .before .loop .count < 2 ^ 32 = omega (arith, c .before .loop .inv .room) in search needs
+
 -- src/cascade.rt:15:1
 returns : tie.Need-returns Inv-loop μ-loop
 returns c = ap afterClosing (going-done (c .before .loop .inv) (c .loop-test .left))
@@ -132,7 +132,6 @@ close-from-spec =
     cast-at
     mul-tickets
     element-copy-out-tickets
-    cast-tickets
     mul-tickets-2
     array-write-tickets
     add-count
@@ -150,4 +149,5 @@ close-from-spec =
     may-close-now-requires
     loop-less
     loop-again
+    cast-t33
     returns)
