@@ -1,5 +1,5 @@
 // The part between: decides for each step of each job whether it goes now or is held.
-mod answers;
+pub mod answers;
 mod ask;
 mod bound;
 mod cascade;

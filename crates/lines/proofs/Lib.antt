@@ -1,2 +1,7 @@
 pub mod Decimal
 pub mod Line
+pub mod Told
+pub mod Record
+pub mod Pieces
+pub mod Going
+pub mod Playing

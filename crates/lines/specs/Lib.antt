@@ -1,2 +1,8 @@
--- A line of four decimal numbers: `Line`.
+-- A record as a call: `Record`. What it answers: `Answered`. A line of four decimal numbers: `Line`. The lines of many records, and the state they leave: `Lines`.
+-- What playing them into a buffer leaves: `Playing`. Records that come in pieces: `Pieces`.
+pub mod Record
+pub mod Answered
 pub mod Line
+pub mod Lines
+pub mod Playing
+pub mod Pieces
