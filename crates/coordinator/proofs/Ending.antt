@@ -26,29 +26,34 @@ use Rattle.coordinator.proofs.Step.{Read, slot-below}
 
 -- ---- refusal number 0: no row applies
 
-module _ (b : Bool) (f : ℕ) (isConfirmed isHeld : Bool) (e : numberOf (jobRefusal b f isConfirmed isHeld) ≡ 0) where
-  pub record Passed : Type 0 where
-    pub none-applies : jobRefusal b f isConfirmed isHeld ≡ none
-    pub some-hold : ¬ (f ≡ 0)
+some-hold : (b : Bool) (f : ℕ) (isConfirmed isHeld : Bool) → numberOf (jobRefusal b f isConfirmed isHeld) ≡ 0 → (jobRefusal b f isConfirmed isHeld ≡ none) × ¬ (f ≡ 0)
+unfolding jobRefusal
+some-hold b f isConfirmed isHeld e =
+    let a = passed (record { applies = not b; number = 10 }) _ (λ z. omega arith) e in
+    let c = passed (record { applies = eqb f 0; number = 3 }) _ (λ z. omega arith) (a .2) in
+    let d = passed (record { applies = not isConfirmed; number = 8 }) _ (λ z. omega arith) (c .2) in
+    let g = passed (record { applies = isHeld; number = 9 }) [] (λ z. omega arith) (d .2) in
+    (a .1 ∙ c .1 ∙ d .1 ∙ g .1 ∙ no-row, eqb-false f 0 (c .0))
 
-  pub job-passed : Passed
-  unfolding jobRefusal
-  job-passed =
-      let a = passed (record { applies = not b; number = 10 }) _ (λ z. omega arith) e in
-      let c = passed (record { applies = eqb f 0; number = 3 }) _ (λ z. omega arith) (a .2) in
-      let d = passed (record { applies = not isConfirmed; number = 8 }) _ (λ z. omega arith) (c .2) in
-      let g = passed (record { applies = isHeld; number = 9 }) [] (λ z. omega arith) (d .2) in
-      record { none-applies = a .1 ∙ c .1 ∙ d .1 ∙ g .1 ∙ no-row; some-hold = eqb-false f 0 (c .0) }
+-- no row applies; f are the slots that hold ticket t, and j is that of the job
+pub record Accepted (s : Coordinator) (t f j : ℕ) : Type 0 where
+  pub none-applies : closeRefusal s t ≡ none
+  pub some : ¬ (f ≡ 0)
+  pub slot : j ≡ holder s t
+  pub fits : j < jobs
 
 module _ {s : Coordinator} {t : ℕ} {b : Bool} {f j : ℕ} (r : Read s t b f j) where
-  pub job-fits : (isConfirmed isHeld : Bool) (x : ℕ) → x ≡ numberOf (jobRefusal b f isConfirmed isHeld) → x ≡ 0 → j < jobs
-  job-fits isConfirmed isHeld x e z = slot-below r (job-passed b f isConfirmed isHeld (sym e ∙ z) .some-hold)
-
   -- the rows that the code goes down are the call's
   pub close-rows : (isConfirmed isHeld : Bool) → isConfirmed ≡ allConfirmedIn (s .named) (s .confirmed) j → isHeld ≡ holds (s .held) j
       → jobRefusal b f isConfirmed isHeld ≡ closeRefusal s t
   unfolding jobRefusal closeRefusal allConfirmedIn allConfirmed names inMask confirmed held
   close-rows isConfirmed isHeld p q = rw (p, q, r .soundness, r .found, r .slot)
+
+  pub close-accepted : (isConfirmed isHeld : Bool) (x : ℕ) → jobRefusal b f isConfirmed isHeld ≡ closeRefusal s t → x ≡ numberOf (jobRefusal b f isConfirmed isHeld) → x ≡ 0
+      → Accepted s t f j
+  close-accepted isConfirmed isHeld x rows e z =
+      let p = some-hold b f isConfirmed isHeld (sym e ∙ z) in
+      record { none-applies = sym rows ∙ p .0; some = p .1; slot = r .slot; fits = slot-below r (p .1) }
 
 -- ---- the three ends
 

@@ -1,7 +1,7 @@
 use mathlib.Core.Path.{sym, ap, _∙_}
 use Rattle.coordinator.specs.Refusal.{numberOf}
 use Rattle.coordinator.proofs.Step.{read}
-use Rattle.coordinator.proofs.Ending.{job-passed, job-fits, close-rows, close-refused, close-held, close-closed}
+use Rattle.coordinator.proofs.Ending.{Accepted, close-rows, close-accepted, close-refused, close-held, close-closed}
 use borrow.Author.Needs.{needs}
 use Rattle.coordinator.proofs.Coordinator.close.Statement.{statement}
 use Rattle.coordinator.proofs.Coordinator.close.Tie as tie
@@ -16,6 +16,13 @@ use Rattle.coordinator.proofs.refusal.of_close.Reads as of-close-reads
 use Rattle.coordinator.proofs.sound.all_sound.Reads as all-sound-reads
 use Rattle.mask.proofs.slots.holds.Reads as holds-reads
 use Rattle.mask.proofs.slots.with_member.Reads as with-member-reads
+
+-- what refusal number 0 tells
+accepted : (c : lts.Then1 (all-sound-reads.Asked, all-sound-reads.Learnt, holders-of-reads.Asked, holders-of-reads.Learnt, holder-reads.Asked, holder-reads.Learnt, all-confirmed-reads.Asked, all-confirmed-reads.Learnt, holds-reads.Asked, holds-reads.Learnt, of-close-reads.Asked, of-close-reads.Learnt, may-close-reads.Asked, may-close-reads.Learnt, close-from-reads.Asked, close-from-reads.Learnt, with-member-reads.Asked, with-member-reads.Learnt) reads.Pre reads.Post)
+    → Accepted (c .before .before .before .before .before .before .before .before .before .before .before .before .before .before .before .before .before .before .before .before .before .args .t1) (c .before .before .before .before .before .before .before .before .before .before .before .before .before .before .before .before .before .before .before .before .before .args .ticket .0) (c .before .before .before .before .before .before .before .before .holders-of .result) (c .before .before .before .before .before .before .before .holder .result .0)
+accepted c =
+    let r = read (c .before .before .before .before .before .before .before .before .before .before .before .before .before .before .before .before .before .before .before .before .before .args .t1) (c .before .before .before .before .before .before .before .before .before .before .before .before .before .before .before .before .before .before .before .before .before .args .ticket .0) _ _ _ (c .before .before .before .before .before .before .before .before .before .before .before .before .all-sound .ensures) (c .before .before .before .before .before .before .before .before .holders-of .ensures) (c .before .before .before .before .before .before .before .holder .ensures) in
+    close-accepted r _ _ _ (close-rows r _ _ (c .before .before .before .all-confirmed .ensures) (c .before .before .holds .ensures)) (c .before .of-close .ensures) (c .if1 .taken)
 
 -- src/close.rt:19:13
 all-sound-requires : tie.Need-all-sound-requires
@@ -43,15 +50,15 @@ of-close-requires c κs = search needs
 
 -- src/close.rt:36:16
 may-close-requires : tie.Need-may-close-requires
-may-close-requires c κs = job-fits (read (c .before .before .before .before .before .before .before .before .before .before .before .before .before .before .before .before .before .before .before .before .before .before .before .args .t1) (c .before .before .before .before .before .before .before .before .before .before .before .before .before .before .before .before .before .before .before .before .before .before .before .args .ticket .0) _ _ _ (c .before .before .before .before .before .before .before .before .before .before .before .before .before .before .all-sound .ensures) (c .before .before .before .before .before .before .before .before .before .before .holders-of .ensures) (c .before .before .before .before .before .before .before .before .before .holder .ensures)) _ _ _ (c .before .before .before .of-close .ensures) (c .before .before .if1 .taken)
+may-close-requires c κs = accepted (c .before .before) .fits
 
 -- src/close.rt:37:17
 close-from-requires : tie.Need-close-from-requires
-close-from-requires c κs = job-passed _ _ _ _ (sym (c .before .before .before .before .before .of-close .ensures) ∙ c .before .before .before .before .if1 .taken) .some-hold
+close-from-requires c κs = accepted (c .before .before .before .before) .some
 
 -- src/close.rt:37:17
 returns : tie.Need-returns
-returns c = close-closed _ _ _ (sym (close-rows (read (c .before .before .before .before .before .before .before .before .before .before .before .before .before .before .before .before .before .before .before .before .before .before .before .before .before .before .args .t1) (c .before .before .before .before .before .before .before .before .before .before .before .before .before .before .before .before .before .before .before .before .before .before .before .before .before .before .args .ticket .0) _ _ _ (c .before .before .before .before .before .before .before .before .before .before .before .before .before .before .before .before .before .all-sound .ensures) (c .before .before .before .before .before .before .before .before .before .before .before .before .before .holders-of .ensures) (c .before .before .before .before .before .before .before .before .before .before .before .before .holder .ensures)) _ _ (c .before .before .before .before .before .before .before .before .all-confirmed .ensures) (c .before .before .before .before .before .before .before .holds .ensures)) ∙ job-passed _ _ _ _ (sym (c .before .before .before .before .before .before .of-close .ensures) ∙ c .before .before .before .before .before .if1 .taken) .none-applies) (read (c .before .before .before .before .before .before .before .before .before .before .before .before .before .before .before .before .before .before .before .before .before .before .before .before .before .before .args .t1) (c .before .before .before .before .before .before .before .before .before .before .before .before .before .before .before .before .before .before .before .before .before .before .before .before .before .before .args .ticket .0) _ _ _ (c .before .before .before .before .before .before .before .before .before .before .before .before .before .before .before .before .before .all-sound .ensures) (c .before .before .before .before .before .before .before .before .before .before .before .before .before .holders-of .ensures) (c .before .before .before .before .before .before .before .before .before .before .before .before .holder .ensures) .slot) (sym (c .before .before .may-close .ensures) ∙ c .before .if2 .taken) _ (c .before .before .before .before .before .before .before .before .before .before .before .before .holder .ensures) _ (c .close-from .ensures)
+returns c = let a = accepted (c .before .before .before .before .before) in close-closed _ _ _ (a .none-applies) (a .slot) (sym (c .before .before .may-close .ensures) ∙ c .before .if2 .taken) _ (c .before .before .before .before .before .before .before .before .before .before .before .before .holder .ensures) _ (c .close-from .ensures)
 
 -- src/close.rt:40:25
 with-member-requires : tie.Need-with-member-requires
@@ -59,7 +66,7 @@ with-member-requires c κs = search needs
 
 -- src/close.rt:16:5
 returns-2 : tie.Need-returns-2
-returns-2 c = close-held _ _ _ (sym (close-rows (read (c .before .before .before .before .before .before .before .before .before .before .before .before .before .before .before .before .before .before .before .before .before .before .before .before .before .before .args .t1) (c .before .before .before .before .before .before .before .before .before .before .before .before .before .before .before .before .before .before .before .before .before .before .before .before .before .before .args .ticket .0) _ _ _ (c .before .before .before .before .before .before .before .before .before .before .before .before .before .before .before .before .before .all-sound .ensures) (c .before .before .before .before .before .before .before .before .before .before .before .before .before .holders-of .ensures) (c .before .before .before .before .before .before .before .before .before .before .before .before .holder .ensures)) _ _ (c .before .before .before .before .before .before .before .before .all-confirmed .ensures) (c .before .before .before .before .before .before .before .holds .ensures)) ∙ job-passed _ _ _ _ (sym (c .before .before .before .before .before .before .of-close .ensures) ∙ c .before .before .before .before .before .if1 .taken) .none-applies) (read (c .before .before .before .before .before .before .before .before .before .before .before .before .before .before .before .before .before .before .before .before .before .before .before .before .before .before .args .t1) (c .before .before .before .before .before .before .before .before .before .before .before .before .before .before .before .before .before .before .before .before .before .before .before .before .before .before .args .ticket .0) _ _ _ (c .before .before .before .before .before .before .before .before .before .before .before .before .before .before .before .before .before .all-sound .ensures) (c .before .before .before .before .before .before .before .before .before .before .before .before .before .holders-of .ensures) (c .before .before .before .before .before .before .before .before .before .before .before .before .holder .ensures) .slot) (sym (c .before .before .may-close .ensures) ∙ c .before .if2 .left) (job-fits (read (c .before .before .before .before .before .before .before .before .before .before .before .before .before .before .before .before .before .before .before .before .before .before .before .before .before .before .args .t1) (c .before .before .before .before .before .before .before .before .before .before .before .before .before .before .before .before .before .before .before .before .before .before .before .before .before .before .args .ticket .0) _ _ _ (c .before .before .before .before .before .before .before .before .before .before .before .before .before .before .before .before .before .all-sound .ensures) (c .before .before .before .before .before .before .before .before .before .before .before .before .before .holders-of .ensures) (c .before .before .before .before .before .before .before .before .before .before .before .before .holder .ensures)) _ _ _ (c .before .before .before .before .before .before .of-close .ensures) (c .before .before .before .before .before .if1 .taken)) _ (c .with-member .ensures)
+returns-2 c = let a = accepted (c .before .before .before .before .before) in close-held _ _ _ (a .none-applies) (a .slot) (sym (c .before .before .may-close .ensures) ∙ c .before .if2 .left) (a .fits) _ (c .with-member .ensures)
 
 -- src/close.rt:16:5
 returns-3 : tie.Need-returns-3
