@@ -2,11 +2,11 @@
 use Prim.Native.Nat.{ℕ, zero, suc, _+_, _-_, _^_, _<_, _≤_}
 use native.Mathlib.Omega.{arith}
 use native.Mathlib.Numerals.{add-one}
-use mathlib.Core.Bool.{Bool, true, false, not, _&&_, _||_}
+use mathlib.Core.Bool.{Bool, true, false, not, _&&_}
 use mathlib.Core.List.{List}
 use mathlib.Core.Logic.{_⊎_, inl, inr}
 use mathlib.Core.Path.{_≡_, refl, sym, ap, ap₂, _∙_}
-use borrow.Author.Tests.{eq-eqb, ne-eqb}
+use borrow.Author.Tests.{ne-eqb}
 use lib.Bits.{bitOr}
 use lib.Dec.{eqb}
 use lib.ListN.{set}
@@ -15,7 +15,7 @@ use Rattle.loops.proofs.Tests.{and-left, and-right, or-cases, or-right}
 use Rattle.mask.specs.Member.{holds, excluding, lowest, size}
 use Rattle.mask.specs.Members.{gather}
 use Rattle.mask.specs.Lowest.{Lowest}
-use Rattle.mask.proofs.Gather.{gathered-lt, holds-gather, holds-gather-beyond}
+use Rattle.mask.proofs.Gather.{gathered-lt, holds-gather}
 use Rattle.mask.proofs.Holds.{holds-or, holds-excluding, holds-below}
 use Rattle.mask.proofs.Lowest.{trailing-lowest, lowest-holds}
 use Rattle.mask.proofs.Size.{size-le, size-mono, size-excluding}

@@ -1,13 +1,13 @@
 -- What close leaves, in each of the three ways that it ends. Assumes nothing.
-use mathlib.Core.Path.{_≡_, refl, sym, ap, _∙_}
-use mathlib.Core.Bool.{Bool, true, false, not, _||_}
+use mathlib.Core.Path.{_≡_, sym, _∙_}
+use mathlib.Core.Bool.{Bool, true, false, not}
 use mathlib.Core.List.{[]}
 use mathlib.Core.Option.{none}
 use Prim.Native.Nat.{ℕ, _<_}
 use native.Mathlib.Omega.{arith}
 use borrow.Author.Tests.{eqb-false}
 use lib.Dec.{eqb}
-use Rattle.mask.specs.Member.{holds, including, joined, lowest}
+use Rattle.mask.specs.Member.{holds, joined, lowest}
 use Rattle.mask.proofs.Change.{joined-below}
 use Rattle.coordinator.specs.declared.Coordinator.{Coordinator}
 use Rattle.coordinator.specs.declared.answers.CloseAnswer.{CloseAnswer}
@@ -17,7 +17,6 @@ use Rattle.coordinator.specs.Views.{inMask, names, confirmed, held}
 use Rattle.coordinator.specs.Holder.{holder}
 use Rattle.coordinator.specs.Refusal.{numberOf, allConfirmed, jobRefusal, closeRefusal}
 use Rattle.coordinator.specs.Change.{markHeld}
-use Rattle.coordinator.specs.Release.{mayClose}
 use Rattle.coordinator.specs.Tables.{mayCloseIn, allConfirmedIn}
 use Rattle.coordinator.specs.Close.{noTickets, closing, afterClosing, closedAt, afterClose}
 use Rattle.coordinator.proofs.Tables.{may-close-is}

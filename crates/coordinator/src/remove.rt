@@ -2,9 +2,7 @@
 use crate::Coordinator;
 use numbers::Slot;
 ghost use mathlib.Core.Path.{_≡_};
-ghost use Prim.Native.Nat.{_*_, _^_, _<_};
-ghost use lib.Dec.{eqb};
-ghost use Rattle.loops.specs.Sum.{tally};
+ghost use Prim.Native.Nat.{_*_, _<_};
 ghost use Rattle.coordinator.specs.Limits.{jobs, databases, steps};
 ghost use Rattle.coordinator.specs.Change.{strike, unled};
 

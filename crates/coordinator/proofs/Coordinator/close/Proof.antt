@@ -24,51 +24,39 @@ accepted c =
     let r = read (c .before .before .before .before .before .before .before .before .before .before .before .before .before .before .before .before .before .before .before .before .before .args .t1) (c .before .before .before .before .before .before .before .before .before .before .before .before .before .before .before .before .before .before .before .before .before .args .ticket .0) _ _ _ (c .before .before .before .before .before .before .before .before .before .before .before .before .all-sound .ensures) (c .before .before .before .before .before .before .before .before .holders-of .ensures) (c .before .before .before .before .before .before .before .holder .ensures) in
     close-accepted r _ _ _ (close-rows r _ _ (c .before .before .before .all-confirmed .ensures) (c .before .before .holds .ensures)) (c .before .of-close .ensures) (c .if1 .taken)
 
--- src/close.rt:19:13
 all-sound-requires : tie.Need-all-sound-requires
 all-sound-requires c κs = search needs
 
--- src/close.rt:29:13
 holders-of-requires : tie.Need-holders-of-requires
 holders-of-requires c κs = search needs
 
--- src/close.rt:30:13
 holder-requires : tie.Need-holder-requires
 holder-requires c κs = search needs
 
--- src/close.rt:31:13
 all-confirmed-requires : tie.Need-all-confirmed-requires
 all-confirmed-requires c κs = search needs
 
--- src/close.rt:32:13
 holds-requires : tie.Need-holds-requires
 holds-requires c κs = search needs
 
--- src/close.rt:33:13
 of-close-requires : tie.Need-of-close-requires
 of-close-requires c κs = search needs
 
--- src/close.rt:36:16
 may-close-requires : tie.Need-may-close-requires
 may-close-requires c κs = accepted (c .before .before) .fits
 
--- src/close.rt:37:17
 close-from-requires : tie.Need-close-from-requires
 close-from-requires c κs = accepted (c .before .before .before .before) .some
 
--- src/close.rt:37:17
 returns : tie.Need-returns
 returns c = let a = accepted (c .before .before .before .before .before) in close-closed _ _ _ (a .none-applies) (a .slot) (sym (c .before .before .may-close .ensures) ∙ c .before .if2 .taken) _ (c .before .before .before .before .before .before .before .before .before .before .before .before .holder .ensures) _ (c .close-from .ensures)
 
--- src/close.rt:40:25
 with-member-requires : tie.Need-with-member-requires
 with-member-requires c κs = search needs
 
--- src/close.rt:16:5
 returns-2 : tie.Need-returns-2
 returns-2 c = let a = accepted (c .before .before .before .before .before) in close-held _ _ _ (a .none-applies) (a .slot) (sym (c .before .before .may-close .ensures) ∙ c .before .if2 .left) (a .fits) _ (c .with-member .ensures)
 
--- src/close.rt:16:5
 returns-3 : tie.Need-returns-3
 returns-3 c = close-refused _ _ _ (c .before .of-close .ensures ∙ ap numberOf (close-rows (read (c .before .before .before .before .before .before .before .before .before .before .before .before .before .before .before .before .before .before .before .before .before .args .t1) (c .before .before .before .before .before .before .before .before .before .before .before .before .before .before .before .before .before .before .before .before .before .args .ticket .0) _ _ _ (c .before .before .before .before .before .before .before .before .before .before .before .before .all-sound .ensures) (c .before .before .before .before .before .before .before .before .holders-of .ensures) (c .before .before .before .before .before .before .before .holder .ensures)) _ _ (c .before .before .before .all-confirmed .ensures) (c .before .before .holds .ensures))) (c .if1 .left)
 

@@ -12,23 +12,17 @@ use Rattle.coordinator.specs.Bound.{mostMoves}
 use borrow.Author.Needs.{needs}
 use Rattle.coordinator.proofs.Coordinator.most_moves.Statement.{statement}
 use Rattle.coordinator.proofs.Coordinator.most_moves.Tie as tie
-use Rattle.coordinator.proofs.Coordinator.most_moves.Reads as reads
-use Rattle.coordinator.proofs.Coordinator.most_moves.Lts as lts
-use Rattle.coordinator.proofs.count.count_all.Reads as count-all-reads
 
 -- all databases named by all jobs
 fits : (sets : List ℕ) (n : ℕ) → n ≡ sum databases (λ k. size jobs (entry sets k)) → 3 * n < 2 ^ 32
 fits sets n e = omega (arith, sum-le databases jobs (λ k. size jobs (entry sets k)) (λ k l. size-le jobs (entry sets k)))
 
--- src/bound.rt:12:13
 count-all-requires : tie.Need-count-all-requires
 count-all-requires c κs = search needs
 
--- src/bound.rt:12:9
 mul-result : tie.Need-mul-result
 mul-result c = let h : 3 * c .count-all .result < 2 ^ 32 = fits (c .before .before .before .args .t1 .named) _ (c .count-all .ensures) in search needs
 
--- src/bound.rt:9:5
 returns : tie.Need-returns
 unfolding mostMoves
 returns c = rw (c .count-all .ensures)

@@ -3,20 +3,13 @@ use mathlib.Core.Bool.{not, Bool·not-not}
 use borrow.Author.Needs.{needs}
 use Rattle.coordinator.proofs.may_close.all_confirmed.Statement.{statement}
 use Rattle.coordinator.proofs.may_close.all_confirmed.Tie as tie
-use Rattle.coordinator.proofs.may_close.all_confirmed.Reads as reads
-use Rattle.coordinator.proofs.may_close.all_confirmed.Lts as lts
-use Rattle.coordinator.proofs.may_close.unfinished.Reads as unfinished-reads
-use Rattle.mask.proofs.slots.holds.Reads as holds-reads
 
--- src/may_close.rt:42:25
 unfinished-requires : tie.Need-unfinished-requires
 unfinished-requires c κs = search needs
 
--- src/may_close.rt:42:6
 holds-requires : tie.Need-holds-requires
 holds-requires c κs = search needs
 
--- src/may_close.rt:35:1
 returns : tie.Need-returns
 returns c = ap not (c .holds .ensures ∙ c .before .unfinished .ensures _) ∙ Bool·not-not _
 

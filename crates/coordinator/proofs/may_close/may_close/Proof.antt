@@ -2,7 +2,7 @@ use borrow.Author.Needs.{needs}
 use borrow.Author.Tests.{eq-eqb, ne-eqb}
 use mathlib.Core.Path.{_≡_}
 use mathlib.Core.Bool.{true}
-use Prim.Native.Nat.{ℕ, _+_, _*_, _-_, _≤_}
+use Prim.Native.Nat.{_+_, _*_, _-_, _≤_}
 use native.Mathlib.Omega.{arith}
 use lib.Dec.{eqb}
 use Rattle.loops.specs.Loop.{every}
@@ -12,8 +12,6 @@ use Rattle.coordinator.specs.Views.{entry}
 use Rattle.coordinator.specs.Tables.{mayCloseIn}
 use Rattle.coordinator.proofs.may_close.may_close.Statement.{statement}
 use Rattle.coordinator.proofs.may_close.may_close.Tie as tie
-use Rattle.coordinator.proofs.may_close.may_close.Reads as reads
-use Rattle.coordinator.proofs.may_close.may_close.Lts as lts
 
 abbrev Inv-loop : tie.InvT-loop
 Inv-loop dependencies b k₀ k = (k ≤ databases) × (true ≡ every k (λ i. eqb (entry dependencies (i * jobs + b)) 0))
@@ -21,48 +19,37 @@ Inv-loop dependencies b k₀ k = (k ≤ databases) × (true ≡ every k (λ i. e
 abbrev μ-loop : tie.MeasureT-loop
 μ-loop dependencies b k₀ k = databases - k
 
--- src/may_close.rt:39:13
 cast-b : tie.Need-cast-b Inv-loop μ-loop
 cast-b c = search needs
 
--- src/may_close.rt:40:5
 loop-holds : tie.Need-loop-holds Inv-loop μ-loop
 loop-holds c = (search needs, every-none _)
 
--- src/may_close.rt:41:25
 mul-if1 : tie.Need-mul-if1 Inv-loop μ-loop
 mul-if1 c = search needs
 
--- src/may_close.rt:41:25
 add-if1 : tie.Need-add-if1 Inv-loop μ-loop
 add-if1 c = search needs
 
--- src/may_close.rt:41:12
 mul-if1-2 : tie.Need-mul-if1-2 Inv-loop μ-loop
 mul-if1-2 c = search needs
 
--- src/may_close.rt:41:12
 element-copy-out-if1 : tie.Need-element-copy-out-if1 Inv-loop μ-loop
 element-copy-out-if1 c = search needs
 
--- src/may_close.rt:42:13
 returns : tie.Need-returns Inv-loop μ-loop
 unfolding mayCloseIn
 returns c = every-fails _ databases _ (c .before .before .loop-test .taken) (ne-eqb _ _ (c .if1 .taken))
 
--- src/may_close.rt:40:9
 add-k : tie.Need-add-k Inv-loop μ-loop
 add-k c = search needs
 
--- src/may_close.rt:40:5
 loop-less : tie.Need-loop-less Inv-loop μ-loop
 loop-less c = search needs
 
--- src/may_close.rt:40:5
 loop-again : tie.Need-loop-again Inv-loop μ-loop
 loop-again c = (omega arith, every-on _ _ (c .before .before .before .loop .inv .1) (eq-eqb _ _ (c .if1 .left)))
 
--- src/may_close.rt:35:1
 returns-2 : tie.Need-returns-2 Inv-loop μ-loop
 unfolding mayCloseIn
 returns-2 c = every-done _ databases _ (c .before .loop .inv .0) (c .loop-test .left) (c .before .loop .inv .1)

@@ -1,20 +1,14 @@
-use mathlib.Core.Path.{_≡_, refl, sym, ap, _∙_}
-use Prim.Native.Nat.{ℕ, _*_, _^_}
+use mathlib.Core.Path.{_∙_}
+use Prim.Native.Nat.{_*_, _^_}
 use borrow.Author.Needs.{needs}
 use lib.Bits.{bitOr}
 use Rattle.loops.specs.Sum.{tally}
-use Rattle.mask.specs.Lowest.{Lowest}
 use Rattle.mask.proofs.Gather.{gather-among}
 use Rattle.mask.proofs.Walking.{Left, left-start, left-lowest, left-rest, left-falls, left-done}
 use Rattle.coordinator.specs.Limits.{jobs}
 use Rattle.coordinator.specs.Tables.{mayCloseIn, mayCloseNowIn}
 use Rattle.coordinator.proofs.may_close.may_close_now.Statement.{statement}
 use Rattle.coordinator.proofs.may_close.may_close_now.Tie as tie
-use Rattle.coordinator.proofs.may_close.may_close_now.Reads as reads
-use Rattle.coordinator.proofs.may_close.may_close_now.Lts as lts
-use Rattle.coordinator.proofs.may_close.free.Reads as free-reads
-use Rattle.coordinator.proofs.release.first_of.Reads as first-of-reads
-use Rattle.mask.proofs.slots.rest.Reads as rest-reads
 
 abbrev Inv-loop : tie.InvT-loop
 Inv-loop dependencies held found₀ left₀ found left = Left (λ j m. bitOr m (tally (mayCloseIn dependencies j) * 2 ^ j)) jobs held 0 left found
@@ -22,31 +16,24 @@ Inv-loop dependencies held found₀ left₀ found left = Left (λ j m. bitOr m (
 abbrev μ-loop : tie.MeasureT-loop
 μ-loop dependencies held found₀ left₀ found left = left
 
--- src/may_close.rt:62:5
 loop-holds : tie.Need-loop-holds Inv-loop μ-loop
 loop-holds c = left-start _ _ _ _
 
--- src/may_close.rt:63:13
 first-of-requires : tie.Need-first-of-requires Inv-loop μ-loop
 first-of-requires c κs = search needs
 
--- src/may_close.rt:64:25
 free-requires : tie.Need-free-requires Inv-loop μ-loop
 free-requires c κs = left-lowest _ jobs _ _ _ _ _ (c .before .before .before .fits .held .fits) (c .before .loop-test .taken) (c .before .before .loop .inv) (c .first-of .ensures) .within
 
--- src/may_close.rt:65:9
 rest-requires : tie.Need-rest-requires Inv-loop μ-loop
 rest-requires c κs = search needs
 
--- src/may_close.rt:62:5
 loop-less : tie.Need-loop-less Inv-loop μ-loop
 loop-less c = left-falls _ jobs _ _ _ _ _ (c .before .before .before .before .before .fits .held .fits) (c .before .before .before .loop-test .taken) (c .before .before .before .before .loop .inv) (c .before .before .first-of .ensures) _ (c .rest .ensures)
 
--- src/may_close.rt:62:5
 loop-again : tie.Need-loop-again Inv-loop μ-loop
 loop-again c = left-rest _ jobs _ _ _ _ _ (c .before .before .before .before .before .fits .held .fits) (c .before .before .before .loop-test .taken) (c .before .before .before .before .loop .inv) (c .before .before .first-of .ensures) _ _ (c .rest .ensures) (rw (c .before .free .ensures))
 
--- src/may_close.rt:57:1
 returns : tie.Need-returns Inv-loop μ-loop
 unfolding mayCloseNowIn
 returns c = left-done _ jobs _ _ _ _ (c .loop-test .left) (c .before .loop .inv) ∙ gather-among jobs _ _

@@ -1,18 +1,12 @@
-use mathlib.Core.Path.{_≡_, ap, _∙_}
-use mathlib.Core.Bool.{not}
-use Prim.Native.Nat.{ℕ, _-_, _≤_}
+use Prim.Native.Nat.{_-_, _≤_}
 use native.Mathlib.Omega.{arith}
 use borrow.Author.Needs.{needs}
-use Rattle.loops.proofs.Turns.{every-done}
 use Rattle.coordinator.specs.Limits.{databases}
 use Rattle.coordinator.specs.Views.{entry}
 use Rattle.coordinator.specs.Tables.{allConfirmedIn}
 use Rattle.coordinator.proofs.Unconfirmed.{Gathered, gathered-none, gathered-more, gathered-done}
 use Rattle.coordinator.proofs.may_close.unfinished.Statement.{statement}
 use Rattle.coordinator.proofs.may_close.unfinished.Tie as tie
-use Rattle.coordinator.proofs.may_close.unfinished.Reads as reads
-use Rattle.coordinator.proofs.may_close.unfinished.Lts as lts
-use Rattle.coordinator.proofs.may_close.unconfirmed.Reads as unconfirmed-reads
 
 abbrev Inv-loop : tie.InvT-loop
 Inv-loop named confirmed m₀ k₀ m k = (k ≤ databases) × Gathered (entry named) (entry confirmed) k m
@@ -20,43 +14,33 @@ Inv-loop named confirmed m₀ k₀ m k = (k ≤ databases) × Gathered (entry na
 abbrev μ-loop : tie.MeasureT-loop
 μ-loop named confirmed m₀ k₀ m k = databases - k
 
--- src/may_close.rt:28:5
 loop-holds : tie.Need-loop-holds Inv-loop μ-loop
 loop-holds c = (search needs, gathered-none _ _)
 
--- src/may_close.rt:29:29
 mul-unconfirmed : tie.Need-mul-unconfirmed Inv-loop μ-loop
 mul-unconfirmed c = search needs
 
--- src/may_close.rt:29:29
 element-copy-out-unconfirmed : tie.Need-element-copy-out-unconfirmed Inv-loop μ-loop
 element-copy-out-unconfirmed c = search needs
 
--- src/may_close.rt:29:39
 mul-unconfirmed-2 : tie.Need-mul-unconfirmed-2 Inv-loop μ-loop
 mul-unconfirmed-2 c = search needs
 
--- src/may_close.rt:29:39
 element-copy-out-unconfirmed-2 : tie.Need-element-copy-out-unconfirmed-2 Inv-loop μ-loop
 element-copy-out-unconfirmed-2 c = search needs
 
--- src/may_close.rt:29:17
 unconfirmed-requires : tie.Need-unconfirmed-requires Inv-loop μ-loop
 unconfirmed-requires c κs = search needs
 
--- src/may_close.rt:28:9
 add-k : tie.Need-add-k Inv-loop μ-loop
 add-k c = search needs
 
--- src/may_close.rt:28:5
 loop-less : tie.Need-loop-less Inv-loop μ-loop
 loop-less c = search needs
 
--- src/may_close.rt:28:5
 loop-again : tie.Need-loop-again Inv-loop μ-loop
 loop-again c = (omega arith, gathered-more _ _ _ _ _ (c .before .before .before .before .loop .inv .1) (c .unconfirmed .ensures))
 
--- src/may_close.rt:21:1
 returns : tie.Need-returns Inv-loop μ-loop
 unfolding allConfirmedIn
 returns c = gathered-done _ _ databases _ _ (c .before .loop .inv .0) (c .loop-test .left) (c .before .loop .inv .1)

@@ -1,4 +1,4 @@
-use mathlib.Core.Path.{_≡_, sym, _∙_}
+use mathlib.Core.Path.{sym, _∙_}
 use native.Mathlib.Omega.{arith}
 use native.Mathlib.Nat.{zero-mul}
 use borrow.Author.Tests.{eq-eqb, ne-eqb}
@@ -6,22 +6,16 @@ use Rattle.mask.proofs.Gather.{leaf-is}
 use borrow.Author.Needs.{needs}
 use Rattle.coordinator.proofs.order.standing.Statement.{statement}
 use Rattle.coordinator.proofs.order.standing.Tie as tie
-use Rattle.coordinator.proofs.order.standing.Reads as reads
-use Rattle.coordinator.proofs.order.standing.Lts as lts
 
--- src/order.rt:20:25
 cast-result : tie.Need-cast-result
 cast-result c = search needs
 
--- src/order.rt:20:20
 shl-result : tie.Need-shl-result
 shl-result c = search needs
 
--- src/order.rt:16:1
 returns : tie.Need-returns
 returns c = leaf-is 32 1 _ (omega arith) (c .before .pre) ∙ simp (eq-eqb _ _ (c .if1 .taken))
 
--- src/order.rt:16:1
 returns-2 : tie.Need-returns-2
 returns-2 c = simp (ne-eqb _ _ (c .if1 .left)) (sym (zero-mul _))
 

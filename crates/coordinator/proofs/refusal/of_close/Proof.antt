@@ -2,30 +2,23 @@ use borrow.Author.Tests.{eq-eqb, ne-eqb}
 use Rattle.coordinator.specs.Refusal.{firstRow, jobRefusal}
 use Rattle.coordinator.proofs.refusal.of_close.Statement.{statement}
 use Rattle.coordinator.proofs.refusal.of_close.Tie as tie
-use Rattle.coordinator.proofs.refusal.of_close.Reads as reads
-use Rattle.coordinator.proofs.refusal.of_close.Lts as lts
 
--- src/refusal.rt:41:9
 returns : tie.Need-returns
 unfolding jobRefusal firstRow
 returns c = rw (c .if1 .taken)
 
--- src/refusal.rt:44:9
 returns-2 : tie.Need-returns-2
 unfolding jobRefusal firstRow
 returns-2 c = rw (c .before .if1 .left, eq-eqb _ _ (c .if2 .taken))
 
--- src/refusal.rt:47:9
 returns-3 : tie.Need-returns-3
 unfolding jobRefusal firstRow
 returns-3 c = rw (c .before .before .if1 .left, ne-eqb _ _ (c .before .if2 .left), c .if3 .taken)
 
--- src/refusal.rt:50:9
 returns-4 : tie.Need-returns-4
 unfolding jobRefusal firstRow
 returns-4 c = rw (c .before .before .before .if1 .left, ne-eqb _ _ (c .before .before .if2 .left), c .before .if3 .left, c .if4 .taken)
 
--- src/refusal.rt:37:1
 returns-5 : tie.Need-returns-5
 unfolding jobRefusal firstRow
 returns-5 c = rw (c .before .before .before .if1 .left, ne-eqb _ _ (c .before .before .if2 .left), c .before .if3 .left, c .if4 .left)

@@ -1,6 +1,6 @@
 use borrow.Author.Needs.{needs}
 use mathlib.Core.Path.{_≡_}
-use Prim.Native.Nat.{ℕ, _-_, _≤_}
+use Prim.Native.Nat.{_-_, _≤_}
 use native.Mathlib.Omega.{arith}
 use lib.ListN.{set}
 use Rattle.loops.specs.Loop.{over}
@@ -11,9 +11,6 @@ use Rattle.coordinator.specs.Views.{entry}
 use Rattle.coordinator.specs.Change.{strike}
 use Rattle.coordinator.proofs.remove.strike.Statement.{statement}
 use Rattle.coordinator.proofs.remove.strike.Tie as tie
-use Rattle.coordinator.proofs.remove.strike.Reads as reads
-use Rattle.coordinator.proofs.remove.strike.Lts as lts
-use Rattle.mask.proofs.slots.without_member.Reads as without-member-reads
 
 abbrev Inv-loop : tie.InvT-loop
 Inv-loop sets₀ j k₀ sets k = (k ≤ databases) × (sets ≡ over k (λ i r. set r i (excluding (entry r i) (j .0))) sets₀)
@@ -21,43 +18,33 @@ Inv-loop sets₀ j k₀ sets k = (k ≤ databases) × (sets ≡ over k (λ i r. 
 abbrev μ-loop : tie.MeasureT-loop
 μ-loop sets₀ j k₀ sets k = databases - k
 
--- src/remove.rt:15:5
 loop-holds : tie.Need-loop-holds Inv-loop μ-loop
 loop-holds c = (search needs, over-none _ _)
 
--- src/remove.rt:16:17
 mul-m : tie.Need-mul-m Inv-loop μ-loop
 mul-m c = search needs
 
--- src/remove.rt:16:17
 element-copy-out-m : tie.Need-element-copy-out-m Inv-loop μ-loop
 element-copy-out-m c = search needs
 
--- src/remove.rt:17:19
 without-member-requires : tie.Need-without-member-requires Inv-loop μ-loop
 without-member-requires c κs = search needs
 
--- src/remove.rt:17:9
 mul-sets : tie.Need-mul-sets Inv-loop μ-loop
 mul-sets c = search needs
 
--- src/remove.rt:17:9
 element-write-sets : tie.Need-element-write-sets Inv-loop μ-loop
 element-write-sets c = search needs
 
--- src/remove.rt:15:9
 add-k : tie.Need-add-k Inv-loop μ-loop
 add-k c = search needs
 
--- src/remove.rt:15:5
 loop-less : tie.Need-loop-less Inv-loop μ-loop
 loop-less c = search needs
 
--- src/remove.rt:15:5
 loop-again : tie.Need-loop-again Inv-loop μ-loop
 loop-again c = (omega arith, rw (c .without-member .ensures) (over-more _ _ _ (c .before .before .before .loop .inv .1)))
 
--- src/remove.rt:12:1
 returns : tie.Need-returns Inv-loop μ-loop
 unfolding strike
 returns c = over-done _ _ databases _ (c .before .loop .inv .0) (c .loop-test .left) (c .before .loop .inv .1)

@@ -1,6 +1,6 @@
 use borrow.Author.Needs.{needs}
 use mathlib.Core.Path.{_≡_}
-use Prim.Native.Nat.{ℕ, _-_, _≤_}
+use Prim.Native.Nat.{_-_, _≤_}
 use native.Mathlib.Omega.{arith}
 use lib.ListN.{set}
 use Rattle.loops.specs.Loop.{over}
@@ -11,9 +11,6 @@ use Rattle.coordinator.specs.Views.{entry}
 use Rattle.coordinator.specs.Change.{strike}
 use Rattle.coordinator.proofs.remove.strike_rows.Statement.{statement}
 use Rattle.coordinator.proofs.remove.strike_rows.Tie as tie
-use Rattle.coordinator.proofs.remove.strike_rows.Reads as reads
-use Rattle.coordinator.proofs.remove.strike_rows.Lts as lts
-use Rattle.mask.proofs.slots.without_member.Reads as without-member-reads
 
 abbrev Inv-loop : tie.InvT-loop
 Inv-loop dependencies₀ j i₀ dependencies i = (i ≤ steps) × (dependencies ≡ over i (λ i r. set r i (excluding (entry r i) (j .0))) dependencies₀)
@@ -21,43 +18,33 @@ Inv-loop dependencies₀ j i₀ dependencies i = (i ≤ steps) × (dependencies 
 abbrev μ-loop : tie.MeasureT-loop
 μ-loop dependencies₀ j i₀ dependencies i = steps - i
 
--- src/remove.rt:25:5
 loop-holds : tie.Need-loop-holds Inv-loop μ-loop
 loop-holds c = (search needs, over-none _ _)
 
--- src/remove.rt:26:17
 mul-m : tie.Need-mul-m Inv-loop μ-loop
 mul-m c = search needs
 
--- src/remove.rt:26:17
 element-copy-out-m : tie.Need-element-copy-out-m Inv-loop μ-loop
 element-copy-out-m c = search needs
 
--- src/remove.rt:27:27
 without-member-requires : tie.Need-without-member-requires Inv-loop μ-loop
 without-member-requires c κs = search needs
 
--- src/remove.rt:27:9
 mul-dependencies : tie.Need-mul-dependencies Inv-loop μ-loop
 mul-dependencies c = search needs
 
--- src/remove.rt:27:9
 element-write-dependencies : tie.Need-element-write-dependencies Inv-loop μ-loop
 element-write-dependencies c = search needs
 
--- src/remove.rt:25:9
 add-i : tie.Need-add-i Inv-loop μ-loop
 add-i c = search needs
 
--- src/remove.rt:25:5
 loop-less : tie.Need-loop-less Inv-loop μ-loop
 loop-less c = search needs
 
--- src/remove.rt:25:5
 loop-again : tie.Need-loop-again Inv-loop μ-loop
 loop-again c = (omega arith, rw (c .without-member .ensures) (over-more _ _ _ (c .before .before .before .loop .inv .1)))
 
--- src/remove.rt:22:1
 returns : tie.Need-returns Inv-loop μ-loop
 unfolding strike
 returns c = over-done _ _ steps _ (c .before .loop .inv .0) (c .loop-test .left) (c .before .loop .inv .1)

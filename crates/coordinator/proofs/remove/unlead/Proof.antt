@@ -1,6 +1,6 @@
 use borrow.Author.Needs.{needs}
 use mathlib.Core.Path.{_≡_}
-use Prim.Native.Nat.{ℕ, _+_, _*_, _-_, _≤_}
+use Prim.Native.Nat.{_+_, _*_, _-_, _≤_}
 use native.Mathlib.Omega.{arith}
 use lib.ListN.{set}
 use Rattle.loops.specs.Loop.{over}
@@ -9,8 +9,6 @@ use Rattle.coordinator.specs.Limits.{jobs, databases}
 use Rattle.coordinator.specs.Change.{unled}
 use Rattle.coordinator.proofs.remove.unlead.Statement.{statement}
 use Rattle.coordinator.proofs.remove.unlead.Tie as tie
-use Rattle.coordinator.proofs.remove.unlead.Reads as reads
-use Rattle.coordinator.proofs.remove.unlead.Lts as lts
 
 abbrev Inv-loop : tie.InvT-loop
 Inv-loop dependencies₀ b k₀ dependencies k = (k ≤ databases) × (dependencies ≡ over k (λ i r. set r (i * jobs + b) 0) dependencies₀)
@@ -18,43 +16,33 @@ Inv-loop dependencies₀ b k₀ dependencies k = (k ≤ databases) × (dependenc
 abbrev μ-loop : tie.MeasureT-loop
 μ-loop dependencies₀ b k₀ dependencies k = databases - k
 
--- src/remove.rt:36:13
 cast-b : tie.Need-cast-b Inv-loop μ-loop
 cast-b c = search needs
 
--- src/remove.rt:37:5
 loop-holds : tie.Need-loop-holds Inv-loop μ-loop
 loop-holds c = (search needs, over-none _ _)
 
--- src/remove.rt:38:22
 mul-dependencies : tie.Need-mul-dependencies Inv-loop μ-loop
 mul-dependencies c = search needs
 
--- src/remove.rt:38:22
 add-dependencies : tie.Need-add-dependencies Inv-loop μ-loop
 add-dependencies c = search needs
 
--- src/remove.rt:38:9
 mul-dependencies-2 : tie.Need-mul-dependencies-2 Inv-loop μ-loop
 mul-dependencies-2 c = search needs
 
--- src/remove.rt:38:9
 element-write-dependencies : tie.Need-element-write-dependencies Inv-loop μ-loop
 element-write-dependencies c = search needs
 
--- src/remove.rt:37:9
 add-k : tie.Need-add-k Inv-loop μ-loop
 add-k c = search needs
 
--- src/remove.rt:37:5
 loop-less : tie.Need-loop-less Inv-loop μ-loop
 loop-less c = search needs
 
--- src/remove.rt:37:5
 loop-again : tie.Need-loop-again Inv-loop μ-loop
 loop-again c = (omega arith, over-more _ _ _ (c .before .loop .inv .1))
 
--- src/remove.rt:32:1
 returns : tie.Need-returns Inv-loop μ-loop
 unfolding unled
 returns c = over-done _ _ databases _ (c .before .loop .inv .0) (c .loop-test .left) (c .before .loop .inv .1)
