@@ -15,26 +15,15 @@ use Rattle.loops.proofs.Turns.{over-none, over-more, every-same}
 use Rattle.mask.specs.Member.{holds, including, less, within, size}
 use Rattle.mask.specs.Members.{unionOf}
 use Rattle.mask.proofs.Holds.{holds-beyond}
-use Rattle.mask.proofs.Words.{one-shl, or-shl}
+use Rattle.mask.proofs.Words.{or-shl}
 use Rattle.mask.proofs.Union.{or-empty, union-empty}
 use Rattle.coordinator.specs.declared.Coordinator.{Coordinator}
 use Rattle.coordinator.specs.Limits.{jobs, databases}
 use Rattle.coordinator.specs.Views.{entry, openSlots, ticket, opened}
 use Rattle.coordinator.specs.Holder.{sharers}
 use Rattle.coordinator.specs.Test.{ticketSound, listed, placeSound, marksSound, partners, pressing, rowSound, rowsSound, databaseSound, sound}
-use Rattle.coordinator.specs.Tables.{openIn, sharersIn}
+use Rattle.coordinator.specs.Tables.{openIn}
 use Rattle.coordinator.specs.Parts.{tables, ticketsOnly, orderOnly, stepsOnly, placeIn, rowWrong, stepsSound}
-
--- ---- tickets
-
-pub ticket-open : (tickets : List ℕ) (slots j x : ℕ) → holds slots j ≡ true → j < jobs → x ≡ sharersIn tickets (entry tickets j)
-    → eqb (bitAnd x slots) (1 * 2 ^ j % 2 ^ 32) ≡ ticketSound (ticketsOnly tickets) slots j
-unfolding ticketSound sharers sharersIn ticket
-ticket-open tickets slots j x e l p = rw (ticketSound, e, p, one-shl 32 j l)
-
-pub ticket-free : (tickets : List ℕ) (slots j : ℕ) → holds slots j ≡ false → eqb (entry tickets j) 0 ≡ ticketSound (ticketsOnly tickets) slots j
-unfolding ticketSound ticket
-ticket-free tickets slots j e = rw (ticketSound, e)
 
 -- ---- the opening order
 

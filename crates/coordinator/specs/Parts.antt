@@ -1,12 +1,14 @@
 -- The parts of the test for soundness, told of the tables that each of them reads. Assumes nothing: these are definitions.
-use Prim.Native.Nat.{ℕ}
-use mathlib.Core.Bool.{Bool, true, false, _&&_}
+use Prim.Native.Nat.{ℕ, _%_, _^_}
+use mathlib.Core.Bool.{Bool, true, false, not, _&&_, _||_}
 use mathlib.Core.List.{List, []}
-use lib.Bits.{bitOr}
+use lib.Bits.{bitAnd, bitOr}
 use lib.Dec.{eqb, ltb}
 use Rattle.mask.specs.Member.{holds, less}
 use Rattle.coordinator.specs.declared.Coordinator.{Coordinator}
 use Rattle.coordinator.specs.Limits.{jobs}
+use Rattle.coordinator.specs.Views.{entry}
+use Rattle.coordinator.specs.Tables.{holdersIn}
 use Rattle.coordinator.specs.Test.{partners, pressing, marksSound, rowsSound}
 
 -- a state by its tables: the number maker is of no matter to soundness
@@ -46,3 +48,18 @@ rowWrong named waiting under b into = bitOr (less jobs into (partners named b)) 
 unfoldable pub stepsSound : ℕ → ℕ → ℕ → ℕ → ℕ → List ℕ → Bool
 stepsSound named asked released confirmed held rows =
     marksSound named asked released confirmed held && rowsSound rows named (less jobs named released) (less jobs released confirmed)
+
+-- the ticket of slot j where j is free
+unfoldable pub freeTicket : List ℕ → ℕ → ℕ → ℕ
+freeTicket tickets slots j = elim (holds slots j) [ true ↦ 0 | false ↦ entry tickets j ]
+
+-- a free slot has no ticket; an open one has a ticket of its own
+unfoldable pub noTicket : List ℕ → ℕ → ℕ → Bool
+noTicket tickets slots j = eqb (freeTicket tickets slots j) 0
+
+unfoldable pub ownTicket : List ℕ → ℕ → ℕ → Bool
+ownTicket tickets slots j = not (holds slots j) || eqb (holdersIn tickets slots (entry tickets j)) (2 ^ j)
+
+-- the ticket of slot j differs from all that were seen, or from all: tickets that are equal are equal modulo 64
+unfoldable pub newTicket : List ℕ → ℕ → ℕ → ℕ → Bool
+newTicket tickets slots seen j = eqb (bitAnd seen (2 ^ (entry tickets j % 64))) 0 || eqb (holdersIn tickets slots (entry tickets j)) (2 ^ j)

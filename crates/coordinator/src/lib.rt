@@ -6,6 +6,7 @@ mod cascade;
 mod close;
 mod confirm;
 mod count;
+mod differ;
 mod enter;
 mod holder;
 mod may_close;

@@ -1,39 +1,14 @@
 // Whether a state is sound. It is tested before every call, so all of it is operations on sets of slots, over lent arrays.
 use crate::Coordinator;
-use crate::holder;
+use crate::differ;
 use crate::views;
 ghost use mathlib.Core.Path.{_≡_};
-ghost use mathlib.Core.List.{[]};
 ghost use Prim.Native.Nat.{ℕ, _*_, _<_};
 ghost use lib.ListN.{drop};
 ghost use Rattle.loops.specs.Loop.{every};
 ghost use Rattle.coordinator.specs.Limits.{jobs, databases};
-ghost use Rattle.coordinator.specs.Test.{ticketSound, placeSound, partners, pressing, marksSound, rowsSound, databaseSound, sound};
-ghost use Rattle.coordinator.specs.Parts.{tables, ticketsOnly, orderOnly, stepsOnly, placeIn, rowWrong, stepsSound};
-
-// Of the open slots only j has the ticket of j, and a free slot has none.
-fn ticket_sound(tickets: &[u16; Coordinator::JOBS], slots: u32, j: usize) -> bool
-    requires { ⌜ j < jobs ⌝ }
-    ensures { λ r. ⌜ r ≡ ticketSound (ticketsOnly (now (tickets .entry))) slots j ⌝ }
-{
-    let t = tickets[j];
-    if slots & 1 << j != 0 {
-        holder::sharers(tickets, t) & slots == 1 << j
-    } else {
-        t == 0
-    }
-}
-
-fn tickets_sound(tickets: &[u16; Coordinator::JOBS], slots: u32) -> bool
-    ensures { λ r. ⌜ r ≡ every jobs (ticketSound (ticketsOnly (now (tickets .entry))) slots) ⌝ }
-{
-    for j in 0..Coordinator::JOBS {
-        if !ticket_sound(tickets, slots, j) {
-            return false;
-        }
-    }
-    true
-}
+ghost use Rattle.coordinator.specs.Test.{placeSound, partners, pressing, marksSound, rowsSound, databaseSound, sound};
+ghost use Rattle.coordinator.specs.Parts.{tables, orderOnly, stepsOnly, placeIn, rowWrong, stepsSound};
 
 // Place i of the opening order, with slot o: one of those left, or zero past the n open ones.
 fn place_sound(left: u32, n: u32, i: usize, o: u8) -> bool
@@ -186,7 +161,7 @@ pub(crate) fn all_sound<'a>(
     if held & !slots != 0 {
         return false;
     }
-    if !tickets_sound(tickets, slots) {
+    if !differ::tickets_sound(tickets, slots) {
         return false;
     }
     if !order_sound(order, slots) {

@@ -26,11 +26,11 @@ use Rattle.effects.proofs.Bounds.{slots-small, open-range}
 module _ (s : Coordinator) where
   -- ---- the slot of the job that holds ticket t
 
-  pub holders-are : (t j : ℕ) → j < jobs → holds (holders s t) j ≡ eqb (ticket s j) t && isOpen s j
+  holders-are : (t j : ℕ) → j < jobs → holds (holders s t) j ≡ eqb (ticket s j) t && isOpen s j
   unfolding holders sharers isOpen
   holders-are t j l = holds-and (sharers s t) (openSlots s) j ∙ ap (λ (b : Bool). b && isOpen s j) (holds-gather (λ j. eqb (ticket s j) t) jobs j l)
 
-  pub holders-small : (t : ℕ) → holders s t < 2 ^ jobs
+  holders-small : (t : ℕ) → holders s t < 2 ^ jobs
   unfolding holders sharers
   holders-small t = lt-of-le-of-lt (and-le-l (sharers s t) (openSlots s)) (gathered-lt (λ j. eqb (ticket s j) t) jobs)
 

@@ -8,7 +8,7 @@ use native.Mathlib.Numerals.{add-one}
 use native.Mathlib.Omega.{arith}
 use Rattle.loops.specs.Loop.{over, every}
 use Rattle.loops.specs.Sum.{sum}
-use Rattle.loops.proofs.Tests.{both, and-left, and-right, and-true, and-false}
+use Rattle.loops.proofs.Tests.{both, and-left, and-right, and-true, and-false, and-both, same-test}
 
 pub over-none : {A : Type 0} (f : ℕ → A → A) (a : A) → a ≡ over 0 f a
 unfolding over
@@ -99,3 +99,10 @@ pub every-same : (n : ℕ) (p q : ℕ → Bool) → ((k : ℕ) → k < n → p k
 unfolding every
 every-same zero p q e = refl
 every-same (suc n) p q e = rw (every-same n p q (λ k l. e k (omega arith)), e n (le-refl (suc n)))
+
+-- two tests in one loop or in two
+pub every-both : (n : ℕ) (p q : ℕ → Bool) → every n (λ k. p k && q k) ≡ every n p && every n q
+every-both n p q =
+    same-test (every n (λ k. p k && q k)) (every n p && every n q)
+    (λ e. and-both (every-of n p (λ k l. and-left (p k) (q k) (every-at n _ e k l))) (every-of n q (λ k l. and-right (p k) (q k) (every-at n _ e k l))))
+    (λ e. every-of n _ (λ k l. and-both (every-at n p (and-left (every n p) (every n q) e) k l) (every-at n q (and-right (every n p) (every n q) e) k l)))

@@ -8,7 +8,7 @@ use Rattle.coordinator.proofs.sound.all_sound.Reads as reads
 use Rattle.coordinator.proofs.sound.all_sound.Lts as lts
 use Rattle.coordinator.proofs.sound.databases_sound.Reads as databases-sound-reads
 use Rattle.coordinator.proofs.sound.order_sound.Reads as order-sound-reads
-use Rattle.coordinator.proofs.sound.tickets_sound.Reads as tickets-sound-reads
+use Rattle.coordinator.proofs.differ.tickets_sound.Reads as tickets-sound-reads
 use Rattle.coordinator.proofs.views.open_slots.Reads as open-slots-reads
 
 -- src/sound.rt:185:9
