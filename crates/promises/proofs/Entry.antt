@@ -23,15 +23,15 @@ use Rattle.promises.specs.Tied.{history, Tied}
 abbrev pub seated : (ℕ → ℕ) → ℕ → ℕ → ℕ → ℕ
 seated J n a i = elim (eqb i n) [ true ↦ a | false ↦ J i ]
 
-chosen : (b : Bool) (x y : ℕ) → b ≡ true → elim b [ true ↦ x | false ↦ y ] ≡ x
+pub chosen : (b : Bool) (x y : ℕ) → b ≡ true → elim b [ true ↦ x | false ↦ y ] ≡ x
 chosen true x y e = refl
 chosen false x y e = both e refl
 
-passed : (b : Bool) (x y : ℕ) → b ≡ false → elim b [ true ↦ x | false ↦ y ] ≡ y
+pub passed : (b : Bool) (x y : ℕ) → b ≡ false → elim b [ true ↦ x | false ↦ y ] ≡ y
 passed true x y e = both refl e
 passed false x y e = refl
 
-neither : {b : Bool} {P : Type 0} → b ≡ false → ¬ P → (b ≡ true) ↔ P
+pub neither : {b : Bool} {P : Type 0} → b ≡ false → ¬ P → (b ≡ true) ↔ P
 neither e n = (λ h. both h e, λ p. absurd (n p))
 
 -- slot n is free, and shows nothing of a job

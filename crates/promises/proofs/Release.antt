@@ -15,7 +15,7 @@ use Rattle.promises.specs.Tied.{history, Tied}
 use Rattle.promises.proofs.Marks.{marked-iff}
 
 -- true or not
-is-not : {b : Bool} {P : Type 0} → (b ≡ true) ↔ P → ¬ P → b ≡ false
+pub is-not : {b : Bool} {P : Type 0} → (b ≡ true) ↔ P → ¬ P → b ≡ false
 is-not {b = true} h n = absurd (n (h .0 refl))
 is-not {b = false} h n = refl
 

@@ -3,3 +3,8 @@ pub mod Told
 pub mod Moment
 pub mod Promise
 pub mod Tied
+pub mod Invariant
+pub mod Tables
+pub mod Everywhere
+pub mod Promises
+pub mod Determined

@@ -11,9 +11,12 @@ module _ (T : Told) where
   abbrev pub Released : ℕ → ℕ → Type 0
   Released a k = (t : ℕ) × T .released a k t
 
-  -- both jobs have had a step released at some database, that of a first
+  -- both jobs have had a step released at database k, that of a first; at some database
+  abbrev pub BeforeAt : ℕ → ℕ → ℕ → Type 0
+  BeforeAt k a b = (s : ℕ) × (t : ℕ) × T .released a k s × T .released b k t × (s < t)
+
   abbrev pub Before : ℕ → ℕ → Type 0
-  Before a b = (k : ℕ) × (s : ℕ) × (t : ℕ) × T .released a k s × T .released b k t × (s < t)
+  Before a b = (k : ℕ) × BeforeAt k a b
 
   -- no ring of jobs, closed ones counted; the same said without a list
   abbrev pub NoRing : Type 0

@@ -62,7 +62,7 @@ close-room s h S t e m =
     subst (λ (r : AfterClose). openCount (r .state) < jobs) (sym (close-taken s t e)) (closed-room s (h, S) (holder s t) (close-accepted s h t e .holder-of .is-open) m)
 
 -- an answer that jobs were closed tells that the close was not refused and not held
-closed-went : (s : Coordinator) (t n : ℕ) → afterClose s t .answer ≡ CloseAnswer.Closed n → (closeRefusal s t ≡ none) × (mayClose s (holder s t) ≡ true)
+pub closed-went : (s : Coordinator) (t n : ℕ) → afterClose s t .answer ≡ CloseAnswer.Closed n → (closeRefusal s t ≡ none) × (mayClose s (holder s t) ≡ true)
 closed-went s t n e = by (closeRefusal s t) refl
   where
     went : closeRefusal s t ≡ none → (b : Bool) → mayClose s (holder s t) ≡ b → (closeRefusal s t ≡ none) × (mayClose s (holder s t) ≡ true)
