@@ -5,7 +5,7 @@ use mathlib.Core.List.{List, [], _∷_, _++_}
 use native.Mathlib.Omega.{arith}
 use native.Mathlib.Nat.{mul-suc, mul-le-mul-left}
 use lib.ListN.{length, take, drop, getD, length-drop, take-append-drop}
-use lib.Seq.{take-at, drop-at, drop-drop, take-add, length-take-le, getD-drop}
+use lib.Seq.{take-at, drop-at, drop-drop, take-add, take-all, length-take-le, getD-drop}
 use Rattle.loops.proofs.Tables.{table-same, table-of, table-at}
 use Rattle.layout.specs.Bytes.{bytesOf, numberOf, numberAt, pieces, bytesOfAll, numbersAt}
 use Rattle.layout.proofs.Number.{length-bytes, number-bytes, bytes-number}
@@ -58,5 +58,9 @@ module _ (b : List ℕ) (small : (i : ℕ) → getD b i 0 < 256) where
       ∙ cut k n b at
 
 -- a part and the rest
-pub join-part : (b : List ℕ) (at n : ℕ) → take n (drop at b) ++ drop (at + n) b ≡ drop at b
-join-part b at n = ap (λ (r : List ℕ). take n (drop at b) ++ r) (sym (drop-drop n at b)) ∙ take-append-drop n (drop at b)
+pub rejoin : (b : List ℕ) (at n : ℕ) (x y : List ℕ) → x ≡ take n (drop at b) → y ≡ drop (at + n) b → x ++ y ≡ drop at b
+rejoin b at n x y p q = rw (p, q) (ap (λ (r : List ℕ). take n (drop at b) ++ r) (sym (drop-drop n at b)) ∙ take-append-drop n (drop at b))
+
+-- the last part
+pub last-part : (b : List ℕ) (at n : ℕ) (x : List ℕ) → length b ≤ at + n → x ≡ take n (drop at b) → x ≡ drop at b
+last-part b at n x h p = p ∙ take-all n (drop at b) (rw (length-drop at b) (omega arith))

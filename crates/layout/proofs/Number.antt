@@ -1,13 +1,15 @@
 -- One number as bytes. Assumes nothing.
 use Prim.Native.Nat.{ℕ, zero, suc, _+_, _*_, _/_, _%_, _^_, _≤_, _<_}
-use mathlib.Core.Path.{_≡_, refl, ap}
+use mathlib.Core.Path.{_≡_, refl, sym, ap, _∙_}
 use mathlib.Core.List.{List, [], _∷_}
 use native.Mathlib.Omega.{arith}
 use native.Mathlib.Nat.{pow-suc}
 use native.Mathlib.Numerals.{add-one}
-use lib.ListN.{length, getD}
+use lib.ListN.{length, set, getD}
 use lib.Seq.{drop-cons}
+use Rattle.layout.specs.Put.{put}
 use Rattle.layout.specs.Bytes.{bytesOf, numberOf, numberAt}
+use Rattle.layout.proofs.Put.{put-one}
 
 pub length-bytes : (k x : ℕ) → length (bytesOf k x) ≡ k
 unfolding bytesOf
@@ -15,9 +17,9 @@ length-bytes zero x = refl
 length-bytes (suc k) x = ap suc (length-bytes k (x / 256))
 
 -- a byte is its own only byte
-pub one-byte : (x : ℕ) → x < 256 → x ∷ [] ≡ bytesOf 1 x
+pub put-byte : (o : List ℕ) (at x : ℕ) → at < length o → x < 256 → set o at x ≡ put o at (bytesOf 1 x)
 unfolding bytesOf
-one-byte x h = let e : x ≡ x % 256 = omega arith in ap (λ (y : ℕ). y ∷ []) e
+put-byte o at x l h = let e : x ≡ x % 256 = omega arith in put-one o at x l ∙ ap (λ (y : ℕ). put o at (y ∷ [])) e
 
 -- there and back
 pub number-bytes : (k x : ℕ) → x < 256 ^ k → numberOf (bytesOf k x) ≡ x
@@ -50,6 +52,10 @@ number-more k b at j e h = rw (e, add-one, drop-cons b at 0 h)
 
 pub number-one : (b : List ℕ) (at : ℕ) → at < length b → numberAt 1 b at ≡ getD b at 0
 number-one b at h = omega (arith, number-more 0 b at (at + 1) refl h, number-none b (at + 1))
+
+-- a byte read from an array of bytes
+pub byte-there : (b : List ℕ) (at i p : ℕ) → p ≡ at + 1 * i → p < length b → getD b p 0 ≡ numberAt 1 b (at + 1 * i)
+byte-there b at i p e h = sym (number-one b p h) ∙ ap (numberAt 1 b) e
 
 pub number-two : (b : List ℕ) (at : ℕ) → at + 2 ≤ length b → numberAt 2 b at ≡ getD b at 0 + 256 * getD b (at + 1) 0
 number-two b at h = omega (arith, number-more 1 b at (at + 1) refl (omega arith), number-one b (at + 1) (omega arith))

@@ -8,7 +8,6 @@ use native.Mathlib.Nat.{mul-suc, eq-or-lt-of-le, le-of-suc-le-suc, le-antisymm}
 use native.Mathlib.Numerals.{add-one}
 use lib.ListN.{length, take, drop, set, getD, length-append}
 use lib.Seq.{take-at, drop-at}
-use Rattle.loops.specs.Table.{table}
 use Rattle.loops.proofs.Tables.{table-turn, table-done}
 use Rattle.layout.specs.Put.{put}
 use Rattle.layout.specs.Bytes.{bytesOf, numberAt, pieces, bytesOfAll, numbersAt}
@@ -39,12 +38,12 @@ module _ (k : ℕ) (f : ℕ → List ℕ) (lf : (i : ℕ) → length (f i) ≡ k
   unfolding pieces
   pieces-none o at h = let e : at + k * 0 ≡ at = omega arith in rw e (filled-none o at h)
 
-  pub pieces-turn : (o : List ℕ) (at i : ℕ) (o₁ o₂ : List ℕ) → Filled o at (pieces i f) (at + k * i) o₁ → at + k * i + k ≤ length o → o₂ ≡ put o₁ (at + k * i) (f i) →
+  pub pieces-turn : (o : List ℕ) (at i p : ℕ) (o₁ o₂ : List ℕ) → Filled o at (pieces i f) (at + k * i) o₁ → at + k * i + k ≤ length o → p ≡ at + k * i → o₂ ≡ put o₁ p (f i) →
       Filled o at (pieces (i + 1) f) (at + k * (i + 1)) o₂
   unfolding pieces
-  pieces-turn o at i o₁ o₂ g h e =
+  pieces-turn o at i p o₁ o₂ g h q e =
       let m : at + k * (i + 1) ≡ at + k * i + k = omega (arith, mul-suc k i) in
-      rw (m, add-one) (filled-on o at (pieces i f) (at + k * i) o₁ (f i) k o₂ g (lf i) h e)
+      rw (m, add-one) (filled-on o at (pieces i f) (at + k * i) o₁ (f i) k o₂ g (lf i) h (rw q at e))
 
 -- numbers written
 pub length-all : (k n : ℕ) (a : List ℕ) → length (bytesOfAll k n a) ≡ k * n
@@ -56,20 +55,26 @@ module _ (k : ℕ) (a o : List ℕ) (at : ℕ) where
   unfolding bytesOfAll
   write-none h = pieces-none k (λ i. bytesOf k (getD a i 0)) (λ i. length-bytes k (getD a i 0)) o at h
 
-  pub write-turn : (i : ℕ) (o₁ o₂ : List ℕ) → Filled o at (bytesOfAll k i a) (at + k * i) o₁ → at + k * i + k ≤ length o → o₂ ≡ put o₁ (at + k * i) (bytesOf k (getD a i 0)) →
-      Filled o at (bytesOfAll k (i + 1) a) (at + k * (i + 1)) o₂
+  pub write-turn : (i p x : ℕ) (o₁ o₂ : List ℕ) → Filled o at (bytesOfAll k i a) (at + k * i) o₁ → at + k * i + k ≤ length o → p ≡ at + k * i → x ≡ getD a i 0 →
+      o₂ ≡ put o₁ p (bytesOf k x) → Filled o at (bytesOfAll k (i + 1) a) (at + k * (i + 1)) o₂
   unfolding bytesOfAll
-  write-turn i o₁ o₂ g h e = pieces-turn k (λ j. bytesOf k (getD a j 0)) (λ j. length-bytes k (getD a j 0)) o at i o₁ o₂ g h e
+  write-turn i p x o₁ o₂ g h q v e = pieces-turn k (λ j. bytesOf k (getD a j 0)) (λ j. length-bytes k (getD a j 0)) o at i p o₁ o₂ g h q (rw v at e)
 
   pub write-done : (i n : ℕ) (o₁ : List ℕ) → i ≤ n → n ≤ i → Filled o at (bytesOfAll k i a) (at + k * i) o₁ → o₁ ≡ put o at (bytesOfAll k n a)
   write-done i n o₁ h h₂ g = g .is ∙ ap (λ (j : ℕ). put o at (bytesOfAll k j a)) (le-antisymm h h₂)
 
+-- a number, and n numbers, after a text
+pub filled-number : (o : List ℕ) (at : ℕ) (t : List ℕ) (p : ℕ) (o₁ : List ℕ) (k x : ℕ) (o₂ : List ℕ) → Filled o at t p o₁ → p + k ≤ length o → o₂ ≡ put o₁ p (bytesOf k x) →
+    Filled o at (t ++ bytesOf k x) (p + k) o₂
+filled-number o at t p o₁ k x o₂ f h e = filled-on o at t p o₁ (bytesOf k x) k o₂ f (length-bytes k x) h e
+
+pub filled-numbers : (o : List ℕ) (at : ℕ) (t : List ℕ) (p : ℕ) (o₁ : List ℕ) (k n : ℕ) (a o₂ : List ℕ) → Filled o at t p o₁ → length a ≡ n → p + k * n ≤ length o →
+    o₂ ≡ put o₁ p (bytesOfAll k (length a) a) → Filled o at (t ++ bytesOfAll k n a) (p + k * n) o₂
+filled-numbers o at t p o₁ k n a o₂ f l h e =
+    filled-on o at t p o₁ (bytesOfAll k n a) (k * n) o₂ f (length-all k n a) h (e ∙ ap (λ (m : ℕ). put o₁ p (bytesOfAll k m a)) l)
+
 -- numbers read
 module _ (k : ℕ) (b : List ℕ) (at : ℕ) where
-  pub read-none : (a : List ℕ) → take 0 a ≡ numbersAt k 0 b at
-  unfolding numbersAt table
-  read-none a = refl
-
   pub read-turn : (a : List ℕ) (i n x : ℕ) → x ≡ numberAt k b (at + k * i) → length a ≡ n → i < n → take i a ≡ numbersAt k i b at → take (i + 1) (set a i x) ≡ numbersAt k (i + 1) b at
   unfolding numbersAt
   read-turn a i n x q l h e = table-turn a (λ j. numberAt k b (at + k * j)) i n x q l h e

@@ -1,0 +1,2 @@
+-- A state as bytes: `State`.
+pub mod State

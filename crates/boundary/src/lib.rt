@@ -1,0 +1,4 @@
+// The library for C: numbers and byte slices.
+mod arrays;
+mod bytes;
+mod state;
