@@ -1,33 +1,21 @@
 -- The moves as the code makes them are those that the definition makes. Assumes nothing.
-use Prim.Native.Nat.{ℕ, _+_, _-_, _*_, _%_, _^_, _<_}
+use Prim.Native.Nat.{ℕ, _+_, _*_, _<_}
 use native.Mathlib.Numerals.{add-one}
 use mathlib.Core.Bool.{true, false, not, _&&_}
 use mathlib.Core.List.{List}
 use mathlib.Core.Path.{_≡_, refl, sym, ap, _∙_}
 use borrow.Author.Tests.{eq-eqb, ne-eqb}
-use lib.Bits.{bitAnd}
 use lib.Dec.{eqb}
 use lib.ListN.{getD}
 use Rattle.loops.specs.Loop.{choice}
 use Rattle.loops.proofs.Rules.{guard-yes, guard-no, choice-yes, choice-no, guard-rule}
-use Rattle.mask.specs.Member.{digit, holds, excluding}
-use Rattle.mask.proofs.Change.{excluding-lt, less-lt}
-use Rattle.mask.proofs.Holds.{holds-of, holds-excluding, holds-less}
-use Rattle.mask.proofs.Words.{or-shl, and-not-shl}
+use Rattle.mask.specs.Member.{digit, holds}
+use Rattle.mask.proofs.Holds.{holds-of}
+use Rattle.mask.proofs.Words.{or-shl}
 use Rattle.walks.specs.Search.{Seek, markReached, markFound, back, closing, forward, opens, choose, run}
 use Rattle.search.specs.Search.{graph}
-use Rattle.search.specs.Visit.{marks, seek, Candidates, visitedJob}
+use Rattle.search.specs.Visit.{marks, seek, visitedJob}
 use Rattle.search.proofs.Here.{Here, marked, visitedSlot}
-
--- the slots to try, as the code has them
-pub candidates-are : (all reached n v : ℕ) → all < 2 ^ 32 → reached < 2 ^ 32 → n < 32 → v < 32
-    → Candidates all reached n v (bitAnd (bitAnd all (2 ^ 32 - 1 - 1 * 2 ^ v % 2 ^ 32)) (2 ^ 32 - 1 - bitAnd reached (2 ^ 32 - 1 - 1 * 2 ^ n % 2 ^ 32)))
-candidates-are all reached n v a r hn hv =
-    rw (and-not-shl 32 all v a hv, and-not-shl 32 reached n r hn)
-    (record {
-      below = less-lt 32 (excluding all v) (excluding reached n) (excluding-lt 32 all v a);
-      members = λ j l. holds-less 32 (excluding all v) (excluding reached n) j (excluding-lt 32 reached n r) l ∙ rw (holds-excluding all v j, holds-excluding reached n j);
-    })
 
 pub seek-is : {a b c d : List ℕ} {m k : ℕ} → a ≡ b → c ≡ d → m ≡ k → seek a c m ≡ seek b d k
 seek-is p q r = rw (p, q, r)
@@ -85,7 +73,7 @@ module _ {named dependencies : List ℕ} {n v u w : ℕ} {reached found : List �
         ∙ ap (back marks) (q ∙ ap (run (graph named dependencies n) marks w u) (reached-is reached found moves w u (at .slot)))
         ∙ sym (opened ∙ choice-no (eqb w n) _ _ here (ne-eqb w n e) ∙ guard-yes _ _ here (rw (ne-eqb (digit (getD reached u 0) w) 1 f)))
 
--- ---- slots that the code does not look at: one that is no candidate, and one that is reached
+-- ---- slots that the code does not look at: one that is no candidate, one that is reached, and the new job where that dependency is found
 
 module _ (named dependencies : List ℕ) (n v u w : ℕ) (t : Seek marks) where
   pub slot-other : not (eqb w v) && holds (getD named u 0) w ≡ false → visitedSlot named dependencies n v u w t ≡ t
@@ -97,3 +85,9 @@ module _ (named dependencies : List ℕ) (n v u w : ℕ) (t : Seek marks) where
   slot-known ne e =
       guard-rule (λ (r : Seek marks). r ≡ t) (opens (graph named dependencies n) u v w) _ t
       (λ p. choice-no (eqb w n) _ _ t (ne-eqb w n ne) ∙ guard-no _ _ t (rw e)) (λ p. refl)
+
+  pub slot-closed : w ≡ n → holds (getD (t .found) u 0) v ≡ true → visitedSlot named dependencies n v u w t ≡ t
+  unfolding choose closing
+  slot-closed is e =
+      guard-rule (λ (r : Seek marks). r ≡ t) (opens (graph named dependencies n) u v w) _ t
+      (λ p. choice-yes (eqb w n) _ _ t (eq-eqb w n is) ∙ guard-no _ _ t (rw e)) (λ p. refl)

@@ -1,6 +1,6 @@
 -- What the functions of the search ask and leave. Assumes nothing: these are definitions.
 use mathlib.Core.Path.{_≡_}
-use mathlib.Core.Bool.{not, _&&_}
+use mathlib.Core.Bool.{Bool, not, _&&_, _||_}
 use mathlib.Core.List.{List}
 use Prim.Native.Nat.{ℕ, _+_, _-_, _*_, _^_, _<_}
 use lib.Dec.{eqb}
@@ -28,10 +28,14 @@ pub record Ready (s : Seek marks) : Type 0 where
   pub found-sets : length (s .found) ≡ 16
   pub fits : s .moves + 1536 < 2 ^ 32 + (2 * count marks (s .reached) + count marks (s .found))
 
--- m has the members of `all` but v, without those of `reached` but n
-pub record Candidates (all reached n v m : ℕ) : Type 0 where
+-- slot j is done with at a database, come to from v: the new job n where the dependency from v to it is found, any other where it is reached
+abbrev pub doneWith : ℕ → ℕ → ℕ → ℕ → ℕ → Bool
+doneWith reached found n v j = eqb j n && holds found v || not (eqb j n) && holds reached j
+
+-- m has the members of `all` but v that are not done with
+pub record Candidates (all reached found n v m : ℕ) : Type 0 where
   pub below : m < 2 ^ 32
-  pub members : (j : ℕ) → j < 32 → holds m j ≡ (not (eqb j v) && holds all j) && not (not (eqb j n) && holds reached j)
+  pub members : (j : ℕ) → j < 32 → holds m j ≡ (not (eqb j v) && holds all j) && not (doneWith reached found n v j)
 
 abbrev pub visitedJob : List ℕ → List ℕ → ℕ → ℕ → ℕ → Seek marks → Seek marks
 visitedJob named dependencies n v via s = run (graph named dependencies n) marks v via s

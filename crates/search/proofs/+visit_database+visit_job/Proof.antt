@@ -59,7 +59,7 @@ visit-database-Inv-loop named dependencies reached₀ found₀ n v u moves k t�
 abbrev visit-database-μ-loop : visit-database-lts.MeasureT-loop
 visit-database-μ-loop named dependencies reached₀ found₀ n v u moves k t₀ m₀ reached found t m = m
 
--- src/lib.rt:81:13
+-- src/lib.rt:88:13
 visit-database-cast-k : (t : ℕ) → visit-database-lts.Need-cast-k (
   candidates-reads.Asked,
   candidates-reads.Learnt,
@@ -72,7 +72,7 @@ visit-database-cast-k : (t : ℕ) → visit-database-lts.Need-cast-k (
 ) (visit-database-at t) visit-database.Post visit-database-Inv-loop visit-database-μ-loop
 visit-database-cast-k t c = search needs
 
--- src/lib.rt:83:28
+-- src/lib.rt:90:28
 visit-database-mul-candidates : (t : ℕ) → visit-database-lts.Need-mul-candidates (
   candidates-reads.Asked,
   candidates-reads.Learnt,
@@ -85,7 +85,7 @@ visit-database-mul-candidates : (t : ℕ) → visit-database-lts.Need-mul-candid
 ) (visit-database-at t) visit-database.Post visit-database-Inv-loop visit-database-μ-loop
 visit-database-mul-candidates t c = search needs
 
--- src/lib.rt:83:28
+-- src/lib.rt:90:28
 visit-database-element-copy-out-candidates :
     (t : ℕ) → visit-database-lts.Need-element-copy-out-candidates (
       candidates-reads.Asked,
@@ -99,7 +99,7 @@ visit-database-element-copy-out-candidates :
     ) (visit-database-at t) visit-database.Post visit-database-Inv-loop visit-database-μ-loop
 visit-database-element-copy-out-candidates t c = search needs
 
--- src/lib.rt:83:38
+-- src/lib.rt:90:38
 visit-database-mul-candidates-2 : (t : ℕ) → visit-database-lts.Need-mul-candidates-2 (
   candidates-reads.Asked,
   candidates-reads.Learnt,
@@ -112,7 +112,7 @@ visit-database-mul-candidates-2 : (t : ℕ) → visit-database-lts.Need-mul-cand
 ) (visit-database-at t) visit-database.Post visit-database-Inv-loop visit-database-μ-loop
 visit-database-mul-candidates-2 t c = search needs
 
--- src/lib.rt:83:38
+-- src/lib.rt:90:38
 visit-database-element-copy-out-candidates-2 :
     (t : ℕ) → visit-database-lts.Need-element-copy-out-candidates-2 (
       candidates-reads.Asked,
@@ -126,7 +126,34 @@ visit-database-element-copy-out-candidates-2 :
     ) (visit-database-at t) visit-database.Post visit-database-Inv-loop visit-database-μ-loop
 visit-database-element-copy-out-candidates-2 t c = search needs
 
--- src/lib.rt:83:9
+-- src/lib.rt:90:50
+visit-database-mul-candidates-3 : (t : ℕ) → visit-database-lts.Need-mul-candidates-3 (
+  candidates-reads.Asked,
+  candidates-reads.Learnt,
+  lowest-reads.Asked,
+  lowest-reads.Learnt,
+  visit-job-below t,
+  visit-job.Post,
+  rest-reads.Asked,
+  rest-reads.Learnt,
+) (visit-database-at t) visit-database.Post visit-database-Inv-loop visit-database-μ-loop
+visit-database-mul-candidates-3 t c = search needs
+
+-- src/lib.rt:90:50
+visit-database-element-copy-out-candidates-3 :
+    (t : ℕ) → visit-database-lts.Need-element-copy-out-candidates-3 (
+      candidates-reads.Asked,
+      candidates-reads.Learnt,
+      lowest-reads.Asked,
+      lowest-reads.Learnt,
+      visit-job-below t,
+      visit-job.Post,
+      rest-reads.Asked,
+      rest-reads.Learnt,
+    ) (visit-database-at t) visit-database.Post visit-database-Inv-loop visit-database-μ-loop
+visit-database-element-copy-out-candidates-3 t c = search needs
+
+-- src/lib.rt:90:9
 visit-database-candidates-requires : (t : ℕ) → visit-database-lts.Need-candidates-requires (
   candidates-reads.Asked,
   candidates-reads.Learnt,
@@ -139,7 +166,7 @@ visit-database-candidates-requires : (t : ℕ) → visit-database-lts.Need-candi
 ) (visit-database-at t) visit-database.Post visit-database-Inv-loop visit-database-μ-loop
 visit-database-candidates-requires t c κs = search needs
 
--- src/lib.rt:84:5
+-- src/lib.rt:91:5
 visit-database-loop-holds : (t : ℕ) → visit-database-lts.Need-loop-holds (
   candidates-reads.Asked,
   candidates-reads.Learnt,
@@ -150,9 +177,9 @@ visit-database-loop-holds : (t : ℕ) → visit-database-lts.Need-loop-holds (
   rest-reads.Asked,
   rest-reads.Learnt,
 ) (visit-database-at t) visit-database.Post visit-database-Inv-loop visit-database-μ-loop
-visit-database-loop-holds t c = slots-start _ _ _ _ _ _ _ (c .before .before .before .before .pre .1 .4)
+visit-database-loop-holds t c = slots-start _ _ _ _ _ _ _ (c .before .before .before .before .before .pre .1 .4)
 
--- src/lib.rt:85:19
+-- src/lib.rt:92:19
 visit-database-lowest-requires : (t : ℕ) → visit-database-lts.Need-lowest-requires (
   candidates-reads.Asked,
   candidates-reads.Learnt,
@@ -165,7 +192,7 @@ visit-database-lowest-requires : (t : ℕ) → visit-database-lts.Need-lowest-re
 ) (visit-database-at t) visit-database.Post visit-database-Inv-loop visit-database-μ-loop
 visit-database-lowest-requires t c κs = search needs
 
--- src/lib.rt:85:19
+-- src/lib.rt:92:19
 visit-database-cast-low : (t : ℕ) → visit-database-lts.Need-cast-low (
   candidates-reads.Asked,
   candidates-reads.Learnt,
@@ -177,11 +204,11 @@ visit-database-cast-low : (t : ℕ) → visit-database-lts.Need-cast-low (
   rest-reads.Learnt,
 ) (visit-database-at t) visit-database.Post visit-database-Inv-loop visit-database-μ-loop
 visit-database-cast-low t c =
-    let h = slot-here (c .before .before .before .before .before .before .before .pre .1) (c .before .before .before .candidates .ensures) (c .before .before .loop .inv) (c .before .loop-test .taken) (c .lowest .ensures) in
+    let h = slot-here (c .before .before .before .before .before .before .before .before .pre .1) (c .before .before .before .candidates .ensures) (c .before .before .loop .inv) (c .before .loop-test .taken) (c .lowest .ensures) in
     let w : c .lowest .result < 32 = h .slot in
     search needs
 
--- src/lib.rt:87:18
+-- src/lib.rt:94:18
 visit-database-mul-at : (t : ℕ) → visit-database-lts.Need-mul-at (
   candidates-reads.Asked,
   candidates-reads.Learnt,
@@ -194,7 +221,7 @@ visit-database-mul-at : (t : ℕ) → visit-database-lts.Need-mul-at (
 ) (visit-database-at t) visit-database.Post visit-database-Inv-loop visit-database-μ-loop
 visit-database-mul-at t c = search needs
 
--- src/lib.rt:87:27
+-- src/lib.rt:94:27
 visit-database-cast-at : (t : ℕ) → visit-database-lts.Need-cast-at (
   candidates-reads.Asked,
   candidates-reads.Learnt,
@@ -207,7 +234,7 @@ visit-database-cast-at : (t : ℕ) → visit-database-lts.Need-cast-at (
 ) (visit-database-at t) visit-database.Post visit-database-Inv-loop visit-database-μ-loop
 visit-database-cast-at t c = search needs
 
--- src/lib.rt:87:18
+-- src/lib.rt:94:18
 visit-database-add-at : (t : ℕ) → visit-database-lts.Need-add-at (
   candidates-reads.Asked,
   candidates-reads.Learnt,
@@ -219,11 +246,11 @@ visit-database-add-at : (t : ℕ) → visit-database-lts.Need-add-at (
   rest-reads.Learnt,
 ) (visit-database-at t) visit-database.Post visit-database-Inv-loop visit-database-μ-loop
 visit-database-add-at t c =
-    let h = slot-here (c .before .before .before .before .before .before .before .before .pre .1) (c .before .before .before .before .candidates .ensures) (c .before .before .before .loop .inv) (c .before .before .loop-test .taken) (c .before .lowest .ensures) in
+    let h = slot-here (c .before .before .before .before .before .before .before .before .before .pre .1) (c .before .before .before .before .candidates .ensures) (c .before .before .before .loop .inv) (c .before .before .loop-test .taken) (c .before .lowest .ensures) in
     let w : c .before .lowest .result < 32 = h .slot in
     search needs
 
--- src/lib.rt:88:13
+-- src/lib.rt:95:13
 visit-database-mul-if1 : (t : ℕ) → visit-database-lts.Need-mul-if1 (
   candidates-reads.Asked,
   candidates-reads.Learnt,
@@ -235,11 +262,11 @@ visit-database-mul-if1 : (t : ℕ) → visit-database-lts.Need-mul-if1 (
   rest-reads.Learnt,
 ) (visit-database-at t) visit-database.Post visit-database-Inv-loop visit-database-μ-loop
 visit-database-mul-if1 t c =
-    let h = slot-here (c .before .before .before .before .before .before .before .before .pre .1) (c .before .before .before .before .candidates .ensures) (c .before .before .before .loop .inv) (c .before .before .loop-test .taken) (c .before .lowest .ensures) in
+    let h = slot-here (c .before .before .before .before .before .before .before .before .before .pre .1) (c .before .before .before .before .candidates .ensures) (c .before .before .before .loop .inv) (c .before .before .loop-test .taken) (c .before .lowest .ensures) in
     let w : c .before .lowest .result < 32 = h .slot in
     search needs
 
--- src/lib.rt:88:13
+-- src/lib.rt:95:13
 visit-database-element-copy-out-if1 : (t : ℕ) → visit-database-lts.Need-element-copy-out-if1 (
   candidates-reads.Asked,
   candidates-reads.Learnt,
@@ -251,11 +278,11 @@ visit-database-element-copy-out-if1 : (t : ℕ) → visit-database-lts.Need-elem
   rest-reads.Learnt,
 ) (visit-database-at t) visit-database.Post visit-database-Inv-loop visit-database-μ-loop
 visit-database-element-copy-out-if1 t c =
-    let h = slot-here (c .before .before .before .before .before .before .before .before .pre .1) (c .before .before .before .before .candidates .ensures) (c .before .before .before .loop .inv) (c .before .before .loop-test .taken) (c .before .lowest .ensures) in
+    let h = slot-here (c .before .before .before .before .before .before .before .before .before .pre .1) (c .before .before .before .before .candidates .ensures) (c .before .before .before .loop .inv) (c .before .before .loop-test .taken) (c .before .lowest .ensures) in
     let w : c .before .lowest .result < 32 = h .slot in
     search needs
 
--- src/lib.rt:88:33
+-- src/lib.rt:95:33
 visit-database-cast-if1 : (t : ℕ) → visit-database-lts.Need-cast-if1 (
   candidates-reads.Asked,
   candidates-reads.Learnt,
@@ -268,7 +295,7 @@ visit-database-cast-if1 : (t : ℕ) → visit-database-lts.Need-cast-if1 (
 ) (visit-database-at t) visit-database.Post visit-database-Inv-loop visit-database-μ-loop
 visit-database-cast-if1 t c = search needs
 
--- src/lib.rt:88:13
+-- src/lib.rt:95:13
 visit-database-shr-if1 : (t : ℕ) → visit-database-lts.Need-shr-if1 (
   candidates-reads.Asked,
   candidates-reads.Learnt,
@@ -281,7 +308,7 @@ visit-database-shr-if1 : (t : ℕ) → visit-database-lts.Need-shr-if1 (
 ) (visit-database-at t) visit-database.Post visit-database-Inv-loop visit-database-μ-loop
 visit-database-shr-if1 t c = search needs
 
--- src/lib.rt:90:25
+-- src/lib.rt:97:25
 visit-database-mul-x : (t : ℕ) → visit-database-lts.Need-mul-x (
   candidates-reads.Asked,
   candidates-reads.Learnt,
@@ -294,7 +321,7 @@ visit-database-mul-x : (t : ℕ) → visit-database-lts.Need-mul-x (
 ) (visit-database-at t) visit-database.Post visit-database-Inv-loop visit-database-μ-loop
 visit-database-mul-x t c = search needs
 
--- src/lib.rt:90:25
+-- src/lib.rt:97:25
 visit-database-element-copy-out-x : (t : ℕ) → visit-database-lts.Need-element-copy-out-x (
   candidates-reads.Asked,
   candidates-reads.Learnt,
@@ -307,7 +334,7 @@ visit-database-element-copy-out-x : (t : ℕ) → visit-database-lts.Need-elemen
 ) (visit-database-at t) visit-database.Post visit-database-Inv-loop visit-database-μ-loop
 visit-database-element-copy-out-x t c = search needs
 
--- src/lib.rt:91:26
+-- src/lib.rt:98:26
 visit-database-cast-if3 : (t : ℕ) → visit-database-lts.Need-cast-if3 (
   candidates-reads.Asked,
   candidates-reads.Learnt,
@@ -320,7 +347,7 @@ visit-database-cast-if3 : (t : ℕ) → visit-database-lts.Need-cast-if3 (
 ) (visit-database-at t) visit-database.Post visit-database-Inv-loop visit-database-μ-loop
 visit-database-cast-if3 t c = search needs
 
--- src/lib.rt:91:21
+-- src/lib.rt:98:21
 visit-database-shr-if3 : (t : ℕ) → visit-database-lts.Need-shr-if3 (
   candidates-reads.Asked,
   candidates-reads.Learnt,
@@ -333,7 +360,7 @@ visit-database-shr-if3 : (t : ℕ) → visit-database-lts.Need-shr-if3 (
 ) (visit-database-at t) visit-database.Post visit-database-Inv-loop visit-database-μ-loop
 visit-database-shr-if3 t c = search needs
 
--- src/lib.rt:92:41
+-- src/lib.rt:99:41
 visit-database-cast-found : (t : ℕ) → visit-database-lts.Need-cast-found (
   candidates-reads.Asked,
   candidates-reads.Learnt,
@@ -346,7 +373,7 @@ visit-database-cast-found : (t : ℕ) → visit-database-lts.Need-cast-found (
 ) (visit-database-at t) visit-database.Post visit-database-Inv-loop visit-database-μ-loop
 visit-database-cast-found t c = search needs
 
--- src/lib.rt:92:36
+-- src/lib.rt:99:36
 visit-database-shl-found : (t : ℕ) → visit-database-lts.Need-shl-found (
   candidates-reads.Asked,
   candidates-reads.Learnt,
@@ -359,7 +386,7 @@ visit-database-shl-found : (t : ℕ) → visit-database-lts.Need-shl-found (
 ) (visit-database-at t) visit-database.Post visit-database-Inv-loop visit-database-μ-loop
 visit-database-shl-found t c = search needs
 
--- src/lib.rt:92:21
+-- src/lib.rt:99:21
 visit-database-mul-found : (t : ℕ) → visit-database-lts.Need-mul-found (
   candidates-reads.Asked,
   candidates-reads.Learnt,
@@ -372,7 +399,7 @@ visit-database-mul-found : (t : ℕ) → visit-database-lts.Need-mul-found (
 ) (visit-database-at t) visit-database.Post visit-database-Inv-loop visit-database-μ-loop
 visit-database-mul-found t c = search needs
 
--- src/lib.rt:92:21
+-- src/lib.rt:99:21
 visit-database-element-write-found : (t : ℕ) → visit-database-lts.Need-element-write-found (
   candidates-reads.Asked,
   candidates-reads.Learnt,
@@ -385,7 +412,7 @@ visit-database-element-write-found : (t : ℕ) → visit-database-lts.Need-eleme
 ) (visit-database-at t) visit-database.Post visit-database-Inv-loop visit-database-μ-loop
 visit-database-element-write-found t c = search needs
 
--- src/lib.rt:93:25
+-- src/lib.rt:100:25
 visit-database-add-t : (t : ℕ) → visit-database-lts.Need-add-t (
   candidates-reads.Asked,
   candidates-reads.Learnt,
@@ -397,11 +424,11 @@ visit-database-add-t : (t : ℕ) → visit-database-lts.Need-add-t (
   rest-reads.Learnt,
 ) (visit-database-at t) visit-database.Post visit-database-Inv-loop visit-database-μ-loop
 visit-database-add-t t c =
-    let h = slot-here (c .before .before .before .before .before .before .before .before .before .before .before .before .before .before .before .before .before .before .pre .1) (c .before .before .before .before .before .before .before .before .before .before .before .before .before .before .candidates .ensures) (c .before .before .before .before .before .before .before .before .before .before .before .before .before .loop .inv) (c .before .before .before .before .before .before .before .before .before .before .before .before .loop-test .taken) (c .before .before .before .before .before .before .before .before .before .before .before .lowest .ensures) in
+    let h = slot-here (c .before .before .before .before .before .before .before .before .before .before .before .before .before .before .before .before .before .before .before .pre .1) (c .before .before .before .before .before .before .before .before .before .before .before .before .before .before .candidates .ensures) (c .before .before .before .before .before .before .before .before .before .before .before .before .before .loop .inv) (c .before .before .before .before .before .before .before .before .before .before .before .before .loop-test .taken) (c .before .before .before .before .before .before .before .before .before .before .before .lowest .ensures) in
     let f : c .before .before .before .before .before .before .before .before .before .before .before .before .before .loop .t + 1 < 2 ^ 32 = closing-fits h (c .before .if3 .taken) in
     search needs
 
--- src/lib.rt:96:25
+-- src/lib.rt:103:25
 visit-database-mul-x-2 : (t : ℕ) → visit-database-lts.Need-mul-x-2 (
   candidates-reads.Asked,
   candidates-reads.Learnt,
@@ -414,7 +441,7 @@ visit-database-mul-x-2 : (t : ℕ) → visit-database-lts.Need-mul-x-2 (
 ) (visit-database-at t) visit-database.Post visit-database-Inv-loop visit-database-μ-loop
 visit-database-mul-x-2 t c = search needs
 
--- src/lib.rt:96:25
+-- src/lib.rt:103:25
 visit-database-element-copy-out-x-2 : (t : ℕ) → visit-database-lts.Need-element-copy-out-x-2 (
   candidates-reads.Asked,
   candidates-reads.Learnt,
@@ -427,7 +454,7 @@ visit-database-element-copy-out-x-2 : (t : ℕ) → visit-database-lts.Need-elem
 ) (visit-database-at t) visit-database.Post visit-database-Inv-loop visit-database-μ-loop
 visit-database-element-copy-out-x-2 t c = search needs
 
--- src/lib.rt:97:26
+-- src/lib.rt:104:26
 visit-database-cast-if4 : (t : ℕ) → visit-database-lts.Need-cast-if4 (
   candidates-reads.Asked,
   candidates-reads.Learnt,
@@ -440,7 +467,7 @@ visit-database-cast-if4 : (t : ℕ) → visit-database-lts.Need-cast-if4 (
 ) (visit-database-at t) visit-database.Post visit-database-Inv-loop visit-database-μ-loop
 visit-database-cast-if4 t c = search needs
 
--- src/lib.rt:97:21
+-- src/lib.rt:104:21
 visit-database-shr-if4 : (t : ℕ) → visit-database-lts.Need-shr-if4 (
   candidates-reads.Asked,
   candidates-reads.Learnt,
@@ -452,11 +479,11 @@ visit-database-shr-if4 : (t : ℕ) → visit-database-lts.Need-shr-if4 (
   rest-reads.Learnt,
 ) (visit-database-at t) visit-database.Post visit-database-Inv-loop visit-database-μ-loop
 visit-database-shr-if4 t c =
-    let h = slot-here (c .before .before .before .before .before .before .before .before .before .before .before .before .before .before .before .before .pre .1) (c .before .before .before .before .before .before .before .before .before .before .before .before .candidates .ensures) (c .before .before .before .before .before .before .before .before .before .before .before .loop .inv) (c .before .before .before .before .before .before .before .before .before .before .loop-test .taken) (c .before .before .before .before .before .before .before .before .before .lowest .ensures) in
+    let h = slot-here (c .before .before .before .before .before .before .before .before .before .before .before .before .before .before .before .before .before .pre .1) (c .before .before .before .before .before .before .before .before .before .before .before .before .candidates .ensures) (c .before .before .before .before .before .before .before .before .before .before .before .loop .inv) (c .before .before .before .before .before .before .before .before .before .before .loop-test .taken) (c .before .before .before .before .before .before .before .before .before .lowest .ensures) in
     let w : c .before .before .before .before .before .before .before .before .before .lowest .result < 32 = h .slot in
     search needs
 
--- src/lib.rt:98:43
+-- src/lib.rt:105:43
 visit-database-cast-reached : (t : ℕ) → visit-database-lts.Need-cast-reached (
   candidates-reads.Asked,
   candidates-reads.Learnt,
@@ -469,7 +496,7 @@ visit-database-cast-reached : (t : ℕ) → visit-database-lts.Need-cast-reached
 ) (visit-database-at t) visit-database.Post visit-database-Inv-loop visit-database-μ-loop
 visit-database-cast-reached t c = search needs
 
--- src/lib.rt:98:38
+-- src/lib.rt:105:38
 visit-database-shl-reached : (t : ℕ) → visit-database-lts.Need-shl-reached (
   candidates-reads.Asked,
   candidates-reads.Learnt,
@@ -481,11 +508,11 @@ visit-database-shl-reached : (t : ℕ) → visit-database-lts.Need-shl-reached (
   rest-reads.Learnt,
 ) (visit-database-at t) visit-database.Post visit-database-Inv-loop visit-database-μ-loop
 visit-database-shl-reached t c =
-    let h = slot-here (c .before .before .before .before .before .before .before .before .before .before .before .before .before .before .before .before .before .before .pre .1) (c .before .before .before .before .before .before .before .before .before .before .before .before .before .before .candidates .ensures) (c .before .before .before .before .before .before .before .before .before .before .before .before .before .loop .inv) (c .before .before .before .before .before .before .before .before .before .before .before .before .loop-test .taken) (c .before .before .before .before .before .before .before .before .before .before .before .lowest .ensures) in
+    let h = slot-here (c .before .before .before .before .before .before .before .before .before .before .before .before .before .before .before .before .before .before .before .pre .1) (c .before .before .before .before .before .before .before .before .before .before .before .before .before .before .candidates .ensures) (c .before .before .before .before .before .before .before .before .before .before .before .before .before .loop .inv) (c .before .before .before .before .before .before .before .before .before .before .before .before .loop-test .taken) (c .before .before .before .before .before .before .before .before .before .before .before .lowest .ensures) in
     let w : c .before .before .before .before .before .before .before .before .before .before .before .lowest .result < 32 = h .slot in
     search needs
 
--- src/lib.rt:98:21
+-- src/lib.rt:105:21
 visit-database-mul-reached : (t : ℕ) → visit-database-lts.Need-mul-reached (
   candidates-reads.Asked,
   candidates-reads.Learnt,
@@ -498,7 +525,7 @@ visit-database-mul-reached : (t : ℕ) → visit-database-lts.Need-mul-reached (
 ) (visit-database-at t) visit-database.Post visit-database-Inv-loop visit-database-μ-loop
 visit-database-mul-reached t c = search needs
 
--- src/lib.rt:98:21
+-- src/lib.rt:105:21
 visit-database-element-write-reached : (t : ℕ) → visit-database-lts.Need-element-write-reached (
   candidates-reads.Asked,
   candidates-reads.Learnt,
@@ -511,7 +538,7 @@ visit-database-element-write-reached : (t : ℕ) → visit-database-lts.Need-ele
 ) (visit-database-at t) visit-database.Post visit-database-Inv-loop visit-database-μ-loop
 visit-database-element-write-reached t c = search needs
 
--- src/lib.rt:99:81
+-- src/lib.rt:106:81
 visit-database-add-visit-job : (t : ℕ) → visit-database-lts.Need-add-visit-job (
   candidates-reads.Asked,
   candidates-reads.Learnt,
@@ -523,11 +550,11 @@ visit-database-add-visit-job : (t : ℕ) → visit-database-lts.Need-add-visit-j
   rest-reads.Learnt,
 ) (visit-database-at t) visit-database.Post visit-database-Inv-loop visit-database-μ-loop
 visit-database-add-visit-job t c =
-    let h = slot-here (c .before .before .before .before .before .before .before .before .before .before .before .before .before .before .before .before .before .before .before .before .pre .1) (c .before .before .before .before .before .before .before .before .before .before .before .before .before .before .before .before .candidates .ensures) (c .before .before .before .before .before .before .before .before .before .before .before .before .before .before .before .loop .inv) (c .before .before .before .before .before .before .before .before .before .before .before .before .before .before .loop-test .taken) (c .before .before .before .before .before .before .before .before .before .before .before .before .before .lowest .ensures) in
+    let h = slot-here (c .before .before .before .before .before .before .before .before .before .before .before .before .before .before .before .before .before .before .before .before .before .pre .1) (c .before .before .before .before .before .before .before .before .before .before .before .before .before .before .before .before .candidates .ensures) (c .before .before .before .before .before .before .before .before .before .before .before .before .before .before .before .loop .inv) (c .before .before .before .before .before .before .before .before .before .before .before .before .before .before .loop-test .taken) (c .before .before .before .before .before .before .before .before .before .before .before .before .before .lowest .ensures) in
     let f : c .before .before .before .before .before .before .before .before .before .before .before .before .before .before .before .loop .t + 1 < 2 ^ 32 = forward-fits h (c .before .before .before .if4 .taken) in
     search needs
 
--- src/lib.rt:99:25
+-- src/lib.rt:106:25
 visit-database-visit-job-requires : (t : ℕ) → visit-database-lts.Need-visit-job-requires (
   candidates-reads.Asked,
   candidates-reads.Learnt,
@@ -539,10 +566,10 @@ visit-database-visit-job-requires : (t : ℕ) → visit-database-lts.Need-visit-
   rest-reads.Learnt,
 ) (visit-database-at t) visit-database.Post visit-database-Inv-loop visit-database-μ-loop
 visit-database-visit-job-requires t c κs =
-    let h = slot-here (c .before .before .before .before .before .before .before .before .before .before .before .before .before .before .before .before .before .before .before .before .pre .1) (c .before .before .before .before .before .before .before .before .before .before .before .before .before .before .before .before .candidates .ensures) (c .before .before .before .before .before .before .before .before .before .before .before .before .before .before .before .loop .inv) (c .before .before .before .before .before .before .before .before .before .before .before .before .before .before .loop-test .taken) (c .before .before .before .before .before .before .before .before .before .before .before .before .before .lowest .ensures) in
-    (omega (arith, forward-falls h (c .before .before .before .if4 .taken), c .before .before .before .before .before .before .before .before .before .before .before .before .before .before .before .loop .inv .kept .falls, c .before .before .before .before .before .before .before .before .before .before .before .before .before .before .before .before .before .before .before .before .pre .0), (c .before .before .before .before .before .before .before .before .before .before .before .before .before .before .before .before .before .before .before .before .pre .1 .0, h .slot, forward-ready h (c .before .before .before .if4 .taken)))
+    let h = slot-here (c .before .before .before .before .before .before .before .before .before .before .before .before .before .before .before .before .before .before .before .before .before .pre .1) (c .before .before .before .before .before .before .before .before .before .before .before .before .before .before .before .before .candidates .ensures) (c .before .before .before .before .before .before .before .before .before .before .before .before .before .before .before .loop .inv) (c .before .before .before .before .before .before .before .before .before .before .before .before .before .before .loop-test .taken) (c .before .before .before .before .before .before .before .before .before .before .before .before .before .lowest .ensures) in
+    (omega (arith, forward-falls h (c .before .before .before .if4 .taken), c .before .before .before .before .before .before .before .before .before .before .before .before .before .before .before .loop .inv .kept .falls, c .before .before .before .before .before .before .before .before .before .before .before .before .before .before .before .before .before .before .before .before .before .pre .0), (c .before .before .before .before .before .before .before .before .before .before .before .before .before .before .before .before .before .before .before .before .before .pre .1 .0, h .slot, forward-ready h (c .before .before .before .if4 .taken)))
 
--- src/lib.rt:99:25
+-- src/lib.rt:106:25
 visit-database-add-t-2 : (t : ℕ) → visit-database-lts.Need-add-t-2 (
   candidates-reads.Asked,
   candidates-reads.Learnt,
@@ -554,11 +581,11 @@ visit-database-add-t-2 : (t : ℕ) → visit-database-lts.Need-add-t-2 (
   rest-reads.Learnt,
 ) (visit-database-at t) visit-database.Post visit-database-Inv-loop visit-database-μ-loop
 visit-database-add-t-2 t c =
-    let h = slot-here (c .before .before .before .before .before .before .before .before .before .before .before .before .before .before .before .before .before .before .before .before .before .pre .1) (c .before .before .before .before .before .before .before .before .before .before .before .before .before .before .before .before .before .candidates .ensures) (c .before .before .before .before .before .before .before .before .before .before .before .before .before .before .before .before .loop .inv) (c .before .before .before .before .before .before .before .before .before .before .before .before .before .before .before .loop-test .taken) (c .before .before .before .before .before .before .before .before .before .before .before .before .before .before .lowest .ensures) in
+    let h = slot-here (c .before .before .before .before .before .before .before .before .before .before .before .before .before .before .before .before .before .before .before .before .before .before .pre .1) (c .before .before .before .before .before .before .before .before .before .before .before .before .before .before .before .before .before .candidates .ensures) (c .before .before .before .before .before .before .before .before .before .before .before .before .before .before .before .before .loop .inv) (c .before .before .before .before .before .before .before .before .before .before .before .before .before .before .before .loop-test .taken) (c .before .before .before .before .before .before .before .before .before .before .before .before .before .before .lowest .ensures) in
     let f : c .visit-job .result + 1 < 2 ^ 32 = return-fits h (c .before .before .before .before .if4 .taken) _ _ _ (c .visit-job .ensures) in
     search needs
 
--- src/lib.rt:103:9
+-- src/lib.rt:110:9
 visit-database-rest-requires : (t : ℕ) → visit-database-lts.Need-rest-requires (
   candidates-reads.Asked,
   candidates-reads.Learnt,
@@ -571,7 +598,7 @@ visit-database-rest-requires : (t : ℕ) → visit-database-lts.Need-rest-requir
 ) (visit-database-at t) visit-database.Post visit-database-Inv-loop visit-database-μ-loop
 visit-database-rest-requires t c κs = search needs
 
--- src/lib.rt:84:5
+-- src/lib.rt:91:5
 visit-database-loop-less : (t : ℕ) → visit-database-lts.Need-loop-less (
   candidates-reads.Asked,
   candidates-reads.Learnt,
@@ -582,9 +609,9 @@ visit-database-loop-less : (t : ℕ) → visit-database-lts.Need-loop-less (
   rest-reads.Asked,
   rest-reads.Learnt,
 ) (visit-database-at t) visit-database.Post visit-database-Inv-loop visit-database-μ-loop
-visit-database-loop-less t c = slots-fall (c .before .before .before .before .before .before .before .before .before .before .before .before .pre .1) (c .before .before .before .before .before .before .before .before .candidates .ensures) (c .before .before .before .before .before .before .before .loop .inv) (c .before .before .before .before .before .before .loop-test .taken) (c .before .before .before .before .before .lowest .ensures) (c .rest .ensures)
+visit-database-loop-less t c = slots-fall (c .before .before .before .before .before .before .before .before .before .before .before .before .before .pre .1) (c .before .before .before .before .before .before .before .before .candidates .ensures) (c .before .before .before .before .before .before .before .loop .inv) (c .before .before .before .before .before .before .loop-test .taken) (c .before .before .before .before .before .lowest .ensures) (c .rest .ensures)
 
--- src/lib.rt:84:5
+-- src/lib.rt:91:5
 visit-database-loop-again : (t : ℕ) → visit-database-lts.Need-loop-again (
   candidates-reads.Asked,
   candidates-reads.Learnt,
@@ -596,7 +623,7 @@ visit-database-loop-again : (t : ℕ) → visit-database-lts.Need-loop-again (
   rest-reads.Learnt,
 ) (visit-database-at t) visit-database.Post visit-database-Inv-loop visit-database-μ-loop
 visit-database-loop-again t c =
-    slots-turn (c .before .before .before .before .before .before .before .before .before .before .before .before .pre .1) (c .before .before .before .before .before .before .before .before .candidates .ensures) (c .before .before .before .before .before .before .before .loop .inv) (c .before .before .before .before .before .before .loop-test .taken) (c .before .before .before .before .before .lowest .ensures) (c .rest .ensures) _ (λ h.
+    slots-turn (c .before .before .before .before .before .before .before .before .before .before .before .before .before .pre .1) (c .before .before .before .before .before .before .before .before .candidates .ensures) (c .before .before .before .before .before .before .before .loop .inv) (c .before .before .before .before .before .before .loop-test .taken) (c .before .before .before .before .before .lowest .ensures) (c .rest .ensures) _ (λ h.
     ⊎-elim (λ w. seek-is (w .8) (w .9) (w .10) ∙ slot-closes h (w .0 .taken) (w .3 .taken) (w .6 .taken))
     (⊎-elim (λ w. seek-is (w .7) (w .8) (w .9) ∙ slot-found h (w .0 .taken) (w .3 .taken) (w .6 .left))
     (⊎-elim (λ w. seek-is (w .11) (w .12) (w .13) ∙ slot-forward h (w .0 .taken) (w .3 .left) (w .6 .taken) _ _ _ (w .10 .ensures))
@@ -604,7 +631,7 @@ visit-database-loop-again t c =
     (λ w. seek-is (w .1) (w .2) (w .3) ∙ slot-held h (w .0 .left)))))
     (c .before .if1 .came))
 
--- src/lib.rt:68:1
+-- src/lib.rt:75:1
 visit-database-returns : (t : ℕ) → visit-database-lts.Need-returns (
   candidates-reads.Asked,
   candidates-reads.Learnt,
@@ -615,7 +642,7 @@ visit-database-returns : (t : ℕ) → visit-database-lts.Need-returns (
   rest-reads.Asked,
   rest-reads.Learnt,
 ) (visit-database-at t) visit-database.Post visit-database-Inv-loop visit-database-μ-loop
-visit-database-returns t c = slots-done (c .before .before .before .before .before .before .pre .1) (c .before .before .candidates .ensures) (c .before .loop .inv) (c .loop-test .left)
+visit-database-returns t c = slots-done (c .before .before .before .before .before .before .before .pre .1) (c .before .before .candidates .ensures) (c .before .loop .inv) (c .loop-test .left)
 
 abbrev visit-job-Inv-loop : visit-job-lts.InvT-loop
 visit-job-Inv-loop named dependencies reached₀ found₀ n v via moves t₀ u₀ reached found t u = AtDatabases named dependencies (n .0) (v .0) (via .0) (seek reached₀ found₀ t₀) (seek reached found t) u
@@ -623,56 +650,56 @@ visit-job-Inv-loop named dependencies reached₀ found₀ n v via moves t₀ u�
 abbrev visit-job-μ-loop : visit-job-lts.MeasureT-loop
 visit-job-μ-loop named dependencies reached₀ found₀ n v via moves t₀ u₀ reached found t u = 16 - u
 
--- src/lib.rt:48:5
+-- src/lib.rt:49:5
 visit-job-loop-holds : (t : ℕ) → visit-job-lts.Need-loop-holds (
   visit-database-below t,
   visit-database.Post,
 ) (visit-job-at t) visit-job.Post visit-job-Inv-loop visit-job-μ-loop
 visit-job-loop-holds t c = databases-start _ _ _ _ _ _
 
--- src/lib.rt:49:17
+-- src/lib.rt:50:17
 visit-job-cast-if1 : (t : ℕ) → visit-job-lts.Need-cast-if1 (
   visit-database-below t,
   visit-database.Post,
 ) (visit-job-at t) visit-job.Post visit-job-Inv-loop visit-job-μ-loop
 visit-job-cast-if1 t c = search needs
 
--- src/lib.rt:50:17
+-- src/lib.rt:51:17
 visit-job-mul-if2 : (t : ℕ) → visit-job-lts.Need-mul-if2 (
   visit-database-below t,
   visit-database.Post,
 ) (visit-job-at t) visit-job.Post visit-job-Inv-loop visit-job-μ-loop
 visit-job-mul-if2 t c = search needs
 
--- src/lib.rt:50:17
+-- src/lib.rt:51:17
 visit-job-element-copy-out-if2 : (t : ℕ) → visit-job-lts.Need-element-copy-out-if2 (
   visit-database-below t,
   visit-database.Post,
 ) (visit-job-at t) visit-job.Post visit-job-Inv-loop visit-job-μ-loop
 visit-job-element-copy-out-if2 t c = search needs
 
--- src/lib.rt:50:29
+-- src/lib.rt:51:29
 visit-job-cast-if2 : (t : ℕ) → visit-job-lts.Need-cast-if2 (
   visit-database-below t,
   visit-database.Post,
 ) (visit-job-at t) visit-job.Post visit-job-Inv-loop visit-job-μ-loop
 visit-job-cast-if2 t c = search needs
 
--- src/lib.rt:50:17
+-- src/lib.rt:51:17
 visit-job-shr-if2 : (t : ℕ) → visit-job-lts.Need-shr-if2 (
   visit-database-below t,
   visit-database.Post,
 ) (visit-job-at t) visit-job.Post visit-job-Inv-loop visit-job-μ-loop
 visit-job-shr-if2 t c = search needs
 
--- src/lib.rt:51:25
+-- src/lib.rt:52:25
 visit-job-cast-k : (t : ℕ) → visit-job-lts.Need-cast-k (
   visit-database-below t,
   visit-database.Post,
 ) (visit-job-at t) visit-job.Post visit-job-Inv-loop visit-job-μ-loop
 visit-job-cast-k t c = search needs
 
--- src/lib.rt:52:17
+-- src/lib.rt:53:17
 visit-job-visit-database-requires : (t : ℕ) → visit-job-lts.Need-visit-database-requires (
   visit-database-below t,
   visit-database.Post,
@@ -681,7 +708,7 @@ visit-job-visit-database-requires t c κs =
     let k = databases-kept (c .before .before .before .before .before .before .before .before .loop .inv) (c .before .before .before .before .before .before .before .before .before .pre .1 .1) (c .before .before .before .before .before .before .before .before .before .pre .1 .2) in
     (omega (arith, k .falls, c .before .before .before .before .before .before .before .before .before .pre .0), (c .before .before .before .before .before .before .before .before .before .pre .1 .0, c .before .before .before .before .before .before .before .before .before .pre .1 .1, c .before .before .before .before .before .before .before .loop-test .taken, eq-eqb _ _ (c .before .before .if2 .taken), k .ready))
 
--- src/lib.rt:48:9
+-- src/lib.rt:49:9
 visit-job-add-u :
     (t : ℕ) →
     visit-job-lts.Need-add-u
@@ -692,14 +719,14 @@ visit-job-add-u :
     visit-job-μ-loop
 visit-job-add-u t c = search needs
 
--- src/lib.rt:48:5
+-- src/lib.rt:49:5
 visit-job-loop-less : (t : ℕ) → visit-job-lts.Need-loop-less (
   visit-database-below t,
   visit-database.Post,
 ) (visit-job-at t) visit-job.Post visit-job-Inv-loop visit-job-μ-loop
 visit-job-loop-less t c = search needs
 
--- src/lib.rt:48:5
+-- src/lib.rt:49:5
 visit-job-loop-again : (t : ℕ) → visit-job-lts.Need-loop-again (
   visit-database-below t,
   visit-database.Post,
@@ -710,7 +737,7 @@ visit-job-loop-again t c =
     (λ w. turn-via (c .before .before .before .loop .inv) (c .before .before .loop-test .taken) (w .0 .left) (seek-is (w .1) (w .2) (w .3))))
     (c .if1 .came)
 
--- src/lib.rt:34:1
+-- src/lib.rt:35:1
 visit-job-returns : (t : ℕ) → visit-job-lts.Need-returns (
   visit-database-below t,
   visit-database.Post,
@@ -737,6 +764,8 @@ pub +visit-database+visit-job-spec : {M : Type 1} → statement M
     (visit-database-element-copy-out-candidates t)
     (visit-database-mul-candidates-2 t)
     (visit-database-element-copy-out-candidates-2 t)
+    (visit-database-mul-candidates-3 t)
+    (visit-database-element-copy-out-candidates-3 t)
     (visit-database-candidates-requires t)
     (visit-database-loop-holds t)
     (visit-database-lowest-requires t)
