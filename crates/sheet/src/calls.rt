@@ -80,7 +80,7 @@ pub(crate) fn close(s: Coordinator, ticket: u16) -> Coordinator {
 fn closed(tickets: &[u16; Coordinator::JOBS], n: u32) {
     for i in 0..Coordinator::JOBS {
         if (i as u32) < n {
-            say::number(tickets[i] as u32);
+            say::ticket(tickets[i]);
         }
     }
 }
@@ -129,7 +129,8 @@ fn is_closed(a: CloseAnswer) -> bool {
 fn round(t: Table, i: u32) -> Table {
     let s = t.state;
     let a = s.open(2);
-    let ticket = ticket_of(a.answer);
+    let answer = a.answer;
+    let ticket = ticket_of(answer);
     let s1 = a.state;
     let b = s1.ask(ticket, Database(1));
     let s2 = b.state;
@@ -137,9 +138,10 @@ fn round(t: Table, i: u32) -> Table {
     let s3 = c.state;
     let d = s3.close(ticket);
     let s4 = d.state;
+    let ending = d.answer;
     let mut as_told = t.as_told;
     if ticket.0 as u32 == i {
-        if is_closed(d.answer) {
+        if is_closed(ending) {
             if as_told < 65535 {
                 as_told += 1;
             }

@@ -9,6 +9,10 @@ pub(crate) fn number(n: u32) {
     let is_written = io::print_decimal(1, n as u64);
 }
 
+pub(crate) fn ticket(t: u16) {
+    number(t as u32);
+}
+
 // A line of the sheet begins.
 pub(crate) fn line(n: u32) {
     if n != 1 {
