@@ -1,5 +1,5 @@
 -- The state: `Limits`, `Fresh`, `Views`, `Shape`. Which states are sound: `Sound`, and its test, `Test`; its parts over the tables: `Parts`. What the code reads of it: `Tables`. The refusals: `Holder`, `Refusal`.
--- The calls: `Change`, `Release`, `Open` (with `Bound`, how many moves it can take), `Ask`, `Confirm`, `Close`; what they answer in document 01's numbers: `Answer`, `Call`. The job sheet: `Sheet`.
+-- The calls: `Change`, `Release`, `Open` (with `Bound`, how many moves it can take), `Ask`, `Confirm`, `Close`; what they answer in document 01's numbers: `Answer`, `Call`.
 pub mod Limits
 pub mod Fresh
 pub mod Views
@@ -19,4 +19,3 @@ pub mod Confirm
 pub mod Close
 pub mod Answer
 pub mod Call
-pub mod Sheet

@@ -14,7 +14,9 @@ pub mod Opening
 pub mod History
 pub mod Cycles
 pub mod Answers
+pub mod Foreseen
 pub mod Searches
 pub mod Others
 pub mod Promises
 pub mod Determined
+pub mod Sheet

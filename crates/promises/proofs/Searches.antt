@@ -22,6 +22,7 @@ use Rattle.coordinator.specs.Views.{entry, dep}
 use Rattle.coordinator.specs.Shape.{Shape}
 use Rattle.coordinator.specs.Sound.{Sound}
 use Rattle.coordinator.specs.Refusal.{openRefusal}
+use Rattle.coordinator.specs.Bound.{mostMoves}
 use Rattle.coordinator.specs.Open.{freeSlot, ticketFor, entered, graph, searched, withFound, added, accepted}
 use Rattle.coordinator.specs.Answer.{openValues}
 use Rattle.coordinator.specs.Call.{openJob, Played, play}
@@ -31,7 +32,9 @@ use Rattle.soundness.proofs.GivenOut.{ticket-given}
 use Rattle.soundness.proofs.Accepted.{open-accepted}
 use Rattle.soundness.proofs.Arms.{open-taken}
 use Rattle.soundness.proofs.Open.{opened-sound}
+use Rattle.soundness.proofs.Free.{free-names}
 use Rattle.promises.specs.Everywhere.{Opened}
+use Rattle.promises.proofs.Foreseen.{foreseen}
 
 module _ (s : Coordinator) (mask : ℕ) (S : Shape s) (X : Sound s) (fits : mask < 2 ^ 16) (e : openRefusal s mask ≡ none) where
   abbrev n : ℕ
@@ -90,6 +93,11 @@ module _ (s : Coordinator) (mask : ℕ) (S : Shape s) (X : Sound s) (fits : mask
   unfolding searched
   moves-few = moves-limit (graph u n) inside refl refl
 
+  moves-foreseen : sought .moves ≤ mostMoves s
+  moves-foreseen =
+      let C = opened-sound s S X mask fits (open-accepted s S mask e .some) (open-accepted s S mask e .room) .0 in
+      subst (λ (x : ℕ). sought .moves ≤ x) (foreseen s u n mask (free-names s S X n (free-slot s S (open-accepted s S mask e .room) .1)) (C .shows .names)) moves-three
+
   pub opened : Opened s mask
   opened = record {
     ticket-first = subst (λ (r : Played). GivenOut s (r .values .ticket)) (sym played) (ticket-given s S X);
@@ -100,4 +108,5 @@ module _ (s : Coordinator) (mask : ℕ) (S : Shape s) (X : Sound s) (fits : mask
     tally = ap (λ (r : Played). r .values .moves) played ∙ moves-tally;
     most = subst (λ (r : Played). r .values .moves ≤ 3 * named (graph u n)) (sym played) moves-three;
     limit = subst (λ (r : Played). r .values .moves ≤ 1488) (sym played) moves-few;
+    foreseen = subst (λ (r : Played). r .values .moves ≤ mostMoves s) (sym played) moves-foreseen;
   }

@@ -19,6 +19,7 @@ use Rattle.coordinator.specs.Sound.{Sound}
 use Rattle.coordinator.specs.Test.{sound}
 use Rattle.coordinator.specs.Release.{mayGoAt}
 use Rattle.coordinator.specs.Refusal.{openRefusal, confirmRefusal}
+use Rattle.coordinator.specs.Bound.{mostMoves}
 use Rattle.coordinator.specs.Open.{freeSlot, entered, graph, searched}
 use Rattle.coordinator.specs.Close.{afterClose}
 use Rattle.coordinator.specs.Answer.{refused}
@@ -67,6 +68,8 @@ module _ (s : Coordinator) (mask : ℕ) where
     pub tally : play s (openJob mask) .values .moves ≡ 2 * count (rows jobs databases) (searched before-search new .reached) + count (rows jobs databases) (searched before-search new .found)
     pub most : play s (openJob mask) .values .moves ≤ 3 * named (graph before-search new)
     pub limit : play s (openJob mask) .values .moves ≤ 1488
+    -- what the coordinator says before the opening that it can take at most
+    pub foreseen : play s (openJob mask) .values .moves ≤ mostMoves s
 
 pub record Calls : Type 0 where
   pub opening : (s : Coordinator) (mask : ℕ) → Shape s → mask < 2 ^ 16 → openRefusal s mask ≡ none → Opened s mask

@@ -8,3 +8,4 @@ pub mod Tables
 pub mod Everywhere
 pub mod Promises
 pub mod Determined
+pub mod Sheet

@@ -10,20 +10,20 @@ use Rattle.mask.specs.Member.{including, excluding}
 use Rattle.mask.specs.Members.{overMembers, gather, unionOf}
 use Rattle.walks.specs.Search.{openingSearch}
 use Rattle.numbers.specs.Ticket.{absentIn, freeFrom}
 use Rattle.coordinator.specs.Views.{inMask, names, asked, released, confirmed, waits, openSlots, isOpen, openCount, ticket, held, opened, into, dep}
 use Rattle.coordinator.specs.Holder.{sharers, holders, holder}
 use Rattle.coordinator.specs.Test.{ticketSound, listed, placeSound, partners, pressing, rowSound, rowsSound, marksSound, databaseSound, sound}
 use Rattle.coordinator.specs.Refusal.{firstRow, allConfirmed, openRefusal, askRefusal, confirmRefusal, closeRefusal}
 use Rattle.coordinator.specs.Change.{mark, markAsked, markReleased, markConfirmed, withDependencies, lead, leadTo, taken}
 use Rattle.coordinator.specs.Release.{mayGo, release, mayGoAt, firstOf}
 use Rattle.coordinator.specs.Open.{freeSlot, heldTickets, ticketFor, entered, searched, withFound, added, accepted, afterOpen}
 use Rattle.coordinator.specs.Ask.{askedFor, afterAsk}
 use Rattle.coordinator.specs.Confirm.{releasedOne, confirmedAt, afterConfirm}
 use Rattle.coordinator.specs.Call.{Call, openJob, play, answers}
 use Rattle.coordinator.specs.Answer.{Values}
 use Rattle.coordinator.specs.Fresh.{fresh}
 use Rattle.coordinator.specs.declared.Coordinator.{Coordinator}
-use Rattle.coordinator.specs.Sheet.{Holds, openings, fullTable, oneLeft, sheet, AllHold}
+use Rattle.promises.specs.Sheet.{Holds, openings, fullTable, oneLeft, sheet, AllHold}
 
 full-table : Holds fullTable
 unfolding answers play afterOpen accepted added withFound searched entered ticketFor heldTickets freeSlot afterAsk askedFor afterConfirm confirmedAt releasedOne mayGo release mayGoAt firstOf mark markAsked markReleased markConfirmed withDependencies lead leadTo taken firstRow allConfirmed openRefusal askRefusal confirmRefusal closeRefusal ticketSound listed placeSound partners pressing rowSound rowsSound marksSound databaseSound sound sharers holders holder inMask names asked released confirmed waits openSlots isOpen openCount ticket held opened into dep over every guard choice sum table including excluding overMembers gather unionOf openingSearch absentIn freeFrom onesIn trailingZeros
