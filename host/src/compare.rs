@@ -12,12 +12,14 @@ use crate::streams::{Parameters, Stream};
 pub type Record = [u8; 4];
 
 /// One answer as bytes, zeros where a call has nothing to say there: refusal u8,
-/// released u8, closed u16, ticket u16, added u16, moves u16, zeros.
-pub type Row = [u8; 16];
+/// released u8, closed u16, ticket u16, added u16, moves u16, six zeros, and the
+/// tickets closed in order, 32 × u16.
+pub type Row = [u8; 80];
 
 pub fn row(answer: &Answer) -> Row {
     let mut refusal = 0;
-    let (mut released, mut closed, mut ticket, mut added, mut moves) = (0, 0, 0, 0, 0);
+    let (mut released, mut ticket, mut added, mut moves) = (0, 0, 0, 0);
+    let mut closed = &[][..];
     match answer {
         Answer::Refused(number) => refusal = *number,
         Answer::Opened { ticket: given, added: some, moves: made } => {
@@ -26,14 +28,17 @@ pub fn row(answer: &Answer) -> Row {
         Answer::Asked { released: at_once } => released = u8::from(*at_once),
         Answer::Confirmed { released: Some(next) } => (released, ticket) = (1, *next),
         Answer::Confirmed { released: None } => {}
-        Answer::Closed(tickets) => closed = tickets.as_slice().len() as u16,
+        Answer::Closed(tickets) => closed = tickets.as_slice(),
     }
-    let mut row = [0; 16];
+    let mut row = [0; 80];
     row[0] = refusal;
     row[1] = released;
-    for (place, value) in [closed, ticket, added, moves].into_iter().enumerate() {
-        row[2 + 2 * place..4 + 2 * place].copy_from_slice(&value.to_le_bytes());
-    }
+    let mut put = |at: usize, value: u16| row[at..at + 2].copy_from_slice(&value.to_le_bytes());
+    put(2, closed.len() as u16);
+    put(4, ticket);
+    put(6, added);
+    put(8, moves);
+    closed.iter().enumerate().for_each(|(place, &value)| put(16 + 2 * place, value));
     row
 }
 

@@ -1,2 +1,8 @@
--- A state as bytes: `Coding`.
+-- A state as bytes, there and back: `Coding`. An answer as bytes: `Written`, and its tickets: `Tickets`. Each call's row: `Answering`. Many records: `Playing`.
+-- What each function answers, by its lengths: `Cases`.
 pub mod Coding
+pub mod Written
+pub mod Tickets
+pub mod Answering
+pub mod Playing
+pub mod Cases

@@ -50,6 +50,10 @@ pub length-all : (k n : ℕ) (a : List ℕ) → length (bytesOfAll k n a) ≡ k 
 unfolding bytesOfAll
 length-all k n a = length-pieces k (λ i. bytesOf k (getD a i 0)) (λ i. length-bytes k (getD a i 0)) n
 
+pub same-all : (k n : ℕ) (a b : List ℕ) → ((i : ℕ) → getD a i 0 ≡ getD b i 0) → bytesOfAll k n a ≡ bytesOfAll k n b
+unfolding bytesOfAll
+same-all k n a b h = pieces-same n _ _ (λ i l. ap (bytesOf k) (h i))
+
 module _ (k : ℕ) (a o : List ℕ) (at : ℕ) where
   pub write-none : at ≤ length o → Filled o at (bytesOfAll k 0 a) (at + k * 0) o
   unfolding bytesOfAll

@@ -1,6 +1,6 @@
 -- The laws of texts put into a buffer. Assumes nothing.
 use Prim.Native.Nat.{ℕ, _+_, _≤_, _<_}
-use mathlib.Core.Path.{_≡_, refl, sym, ap, _∙_}
+use mathlib.Core.Path.{_≡_, refl, sym, ap, subst, _∙_}
 use mathlib.Core.List.{List, [], _∷_, _++_, append-assoc, append-nil}
 use native.Mathlib.Omega.{arith}
 use native.Mathlib.Nat.{add-assoc, add-zero}
@@ -71,6 +71,10 @@ filled-on o at t p o₁ u n o₂ f l h e = record {
   room = h;
   is = then-text o at t u p (p + n) o₁ o₂ (f .ends) (f .room) (f .is) (omega arith) e .1;
 }
+
+-- the index after it, said in another way
+pub filled-to : (q : ℕ) {o : List ℕ} {at : ℕ} {t : List ℕ} {p : ℕ} {o₁ : List ℕ} → Filled o at t p o₁ → p ≡ q → Filled o at t q o₁
+filled-to q {o} {at} {t} {p} {o₁} f e = subst (λ (x : ℕ). Filled o at t x o₁) e f
 
 pub filled-long : (o : List ℕ) (at : ℕ) (t : List ℕ) (p : ℕ) (o₁ : List ℕ) → Filled o at t p o₁ → length o₁ ≡ length o
 filled-long o at t p o₁ f = ap length (f .is) ∙ length-put o at t (omega (arith, f .ends, f .room))
