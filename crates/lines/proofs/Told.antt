@@ -1,7 +1,10 @@
 -- Each answer of each call, as the numbers of its line. Assumes nothing.
 use Prim.Native.Nat.{ℕ}
-use mathlib.Core.Path.{_≡_, refl, sym, ap, _∙_}
-use mathlib.Core.Option.{some}
+use mathlib.Core.Path.{_≡_, refl, sym, ap, subst, _∙_}
+use mathlib.Core.List.{List, [], _∷_}
+use mathlib.Core.Option.{Option, none, some}
+use native.Mathlib.Omega.{arith}
+use lib.ListN.{length, set}
 use Rattle.coordinator.specs.declared.Coordinator.{Coordinator}
 use Rattle.coordinator.specs.declared.answers.OpenAnswer.{OpenAnswer}
 use Rattle.coordinator.specs.declared.answers.AskAnswer.{AskAnswer}
@@ -16,34 +19,55 @@ use Rattle.coordinator.specs.Ask.{afterAsk}
 use Rattle.coordinator.specs.Confirm.{afterConfirm}
 use Rattle.coordinator.specs.Close.{afterClose}
 use Rattle.coordinator.specs.Answer.{Values, openValues, askValues, confirmValues, closeValues}
-use Rattle.coordinator.specs.Call.{openJob, askStep, confirmStep, closeJob, play}
-use Rattle.lines.specs.declared.answered.Answered.{Answered}
-use Rattle.lines.specs.Answered.{told, answered}
+use Rattle.coordinator.specs.Call.{Call, openJob, askStep, confirmStep, closeJob, play}
+use Rattle.lines.specs.Answered.{told, answered, Answers}
 
-abbrev pub openTold : OpenAnswer → Coordinator → Answered
-openTold a t = record { state = t; refusal = openValues a .refusal; first = openValues a .ticket; second = openValues a .moves }
+pub three-put : (l : List ℕ) (a b c : ℕ) → length l ≡ 3 → set (set (set l 0 a) 1 b) 2 c ≡ a ∷ b ∷ c ∷ []
+three-put [] a b c h = absurd (omega arith)
+three-put (x ∷ []) a b c h = absurd (omega arith)
+three-put (x ∷ y ∷ []) a b c h = absurd (omega arith)
+three-put (x ∷ y ∷ z ∷ []) a b c h = refl
+three-put (x ∷ y ∷ z ∷ w ∷ l) a b c h = absurd (omega arith)
 
-pub open-told : (s : Coordinator) (mask : ℕ) (r : AfterOpen) (a : OpenAnswer) → r ≡ afterOpen s mask → r .answer ≡ a → openTold a (r .state) ≡ answered s (some (openJob mask))
+-- the answer's numbers, with the values of document 01 that they are
+pub open-told : (s : Coordinator) (mask : ℕ) (r : AfterOpen) (a : OpenAnswer) (l : List ℕ) → r ≡ afterOpen s mask → r .answer ≡ a →
+    l ≡ openValues a .refusal ∷ openValues a .ticket ∷ openValues a .moves ∷ [] → Answers s (some (openJob mask)) l (r .state)
 unfolding answered told play
-open-told s mask r a e h = ap (λ (x : OpenAnswer). openTold x (r .state)) (sym h) ∙ ap (λ (x : AfterOpen). openTold (x .answer) (x .state)) e
+open-told s mask r a l e h w = record {
+  told = w ∙ ap (λ (x : OpenAnswer). openValues x .refusal ∷ openValues x .ticket ∷ openValues x .moves ∷ []) (sym h ∙ ap (λ (x : AfterOpen). x .answer) e);
+  left = ap (λ (x : AfterOpen). x .state) e;
+}
 
-abbrev pub askTold : AskAnswer → Coordinator → Answered
-askTold a t = record { state = t; refusal = askValues a .refusal; first = askValues a .released; second = 0 }
-
-pub ask-told : (s : Coordinator) (t k : ℕ) (r : AfterAsk) (a : AskAnswer) → r ≡ afterAsk s t k → r .answer ≡ a → askTold a (r .state) ≡ answered s (some (askStep t k))
+pub ask-told : (s : Coordinator) (t k : ℕ) (r : AfterAsk) (a : AskAnswer) (l : List ℕ) → r ≡ afterAsk s t k → r .answer ≡ a →
+    l ≡ askValues a .refusal ∷ askValues a .released ∷ 0 ∷ [] → Answers s (some (askStep t k)) l (r .state)
 unfolding answered told play
-ask-told s t k r a e h = ap (λ (x : AskAnswer). askTold x (r .state)) (sym h) ∙ ap (λ (x : AfterAsk). askTold (x .answer) (x .state)) e
+ask-told s t k r a l e h w = record {
+  told = w ∙ ap (λ (x : AskAnswer). askValues x .refusal ∷ askValues x .released ∷ 0 ∷ []) (sym h ∙ ap (λ (x : AfterAsk). x .answer) e);
+  left = ap (λ (x : AfterAsk). x .state) e;
+}
 
-abbrev pub confirmTold : ConfirmAnswer → Coordinator → Answered
-confirmTold a t = record { state = t; refusal = confirmValues a .refusal; first = confirmValues a .released; second = confirmValues a .ticket }
-
-pub confirm-told : (s : Coordinator) (t k : ℕ) (r : AfterConfirm) (a : ConfirmAnswer) → r ≡ afterConfirm s t k → r .answer ≡ a → confirmTold a (r .state) ≡ answered s (some (confirmStep t k))
+pub confirm-told : (s : Coordinator) (t k : ℕ) (r : AfterConfirm) (a : ConfirmAnswer) (l : List ℕ) → r ≡ afterConfirm s t k → r .answer ≡ a →
+    l ≡ confirmValues a .refusal ∷ confirmValues a .released ∷ confirmValues a .ticket ∷ [] → Answers s (some (confirmStep t k)) l (r .state)
 unfolding answered told play
-confirm-told s t k r a e h = ap (λ (x : ConfirmAnswer). confirmTold x (r .state)) (sym h) ∙ ap (λ (x : AfterConfirm). confirmTold (x .answer) (x .state)) e
+confirm-told s t k r a l e h w = record {
+  told = w ∙ ap (λ (x : ConfirmAnswer). confirmValues x .refusal ∷ confirmValues x .released ∷ confirmValues x .ticket ∷ []) (sym h ∙ ap (λ (x : AfterConfirm). x .answer) e);
+  left = ap (λ (x : AfterConfirm). x .state) e;
+}
 
-abbrev pub closeTold : CloseAnswer → AfterClose → Answered
-closeTold a r = record { state = r .state; refusal = closeValues a (r .tickets) .refusal; first = closeValues a (r .tickets) .closed; second = 0 }
-
-pub close-told : (s : Coordinator) (t : ℕ) (r : AfterClose) (a : CloseAnswer) → r ≡ afterClose s t → r .answer ≡ a → closeTold a r ≡ answered s (some (closeJob t))
+pub close-told : (s : Coordinator) (t : ℕ) (r : AfterClose) (a : CloseAnswer) (l : List ℕ) → r ≡ afterClose s t → r .answer ≡ a →
+    l ≡ closeValues a (r .tickets) .refusal ∷ closeValues a (r .tickets) .closed ∷ 0 ∷ [] → Answers s (some (closeJob t)) l (r .state)
 unfolding answered told play
-close-told s t r a e h = ap (λ (x : CloseAnswer). closeTold x r) (sym h) ∙ ap (λ (x : AfterClose). closeTold (x .answer) x) e
+close-told s t r a l e h w = record {
+  told = w ∙ ap (λ (x : CloseAnswer). closeValues x (r .tickets) .refusal ∷ closeValues x (r .tickets) .closed ∷ 0 ∷ []) (sym h)
+      ∙ ap (λ (x : AfterClose). closeValues (x .answer) (x .tickets) .refusal ∷ closeValues (x .answer) (x .tickets) .closed ∷ 0 ∷ []) e;
+  left = ap (λ (x : AfterClose). x .state) e;
+}
+
+-- what is no call
+pub unknown-told : (s : Coordinator) (l : List ℕ) → l ≡ 11 ∷ 0 ∷ 0 ∷ [] → Answers s none l s
+unfolding answered
+unknown-told s l w = record { told = w; left = refl }
+
+-- as the kind has it
+pub answers-as : (s : Coordinator) (c d : Option Call) (l : List ℕ) (r : Coordinator) → d ≡ c → Answers s c l r → Answers s d l r
+answers-as s c d l r e a = subst (λ (x : Option Call). Answers s x l r) (sym e) a

@@ -14,10 +14,10 @@ ghost use Rattle.lines.specs.Line.{longest};
 ghost use Rattle.lines.specs.Playing.{Playing, all, playing};
 
 // Bytes left at the end that are no whole record.
-const LEFT_OVER: u8 = 12;
+const LEFT_OVER: u32 = 12;
 
 // The bytes that a line takes at most.
-const LONGEST: usize = 47;
+const LONGEST: usize = 54;
 
 // What playing some records leaves: the state, the next index, how many bytes were written, and whether nothing was played.
 pub struct Played {
@@ -54,9 +54,9 @@ fn play_all(s: Coordinator, index: u64, records: &[u8], out: &mut [u8]) -> Playe
     let mut w = 0;
     while 4 <= records.len() - at {
         let value = two_bytes(records, at + 2);
-        let next = answer_record(t, records[at], records[at + 1], value);
-        t = next.state;
-        w = put_line(i, next.refusal, next.first, next.second, out, w);
+        let mut numbers = [0u32; 3];
+        t = answer_record(t, records[at], records[at + 1], value, &mut numbers);
+        w = put_line(i, numbers[0], numbers[1], numbers[2], out, w);
         i += 1;
         at += 4;
     }
