@@ -1,10 +1,11 @@
 -- The parts of the test for soundness, told of the tables that each of them reads. Assumes nothing: these are definitions.
-use Prim.Native.Nat.{ℕ, _%_, _^_}
+use Prim.Native.Nat.{ℕ, _+_, _*_, _%_, _^_}
 use mathlib.Core.Bool.{Bool, true, false, not, _&&_, _||_}
 use mathlib.Core.List.{List, []}
 use lib.Bits.{bitAnd, bitOr}
 use lib.Dec.{eqb, ltb}
-use Rattle.mask.specs.Member.{holds, less}
+use Rattle.mask.specs.Member.{holds, excluding, less, lowest}
+use Rattle.mask.specs.Members.{unionOf}
 use Rattle.coordinator.specs.declared.Coordinator.{Coordinator}
 use Rattle.coordinator.specs.Limits.{jobs}
 use Rattle.coordinator.specs.Views.{entry}
@@ -63,3 +64,10 @@ ownTicket tickets slots j = not (holds slots j) || eqb (holdersIn tickets slots 
 -- the ticket of slot j differs from all that were seen, or from all: tickets that are equal are equal modulo 64
 unfoldable pub newTicket : List ℕ → ℕ → ℕ → ℕ → Bool
 newTicket tickets slots seen j = eqb (bitAnd seen (2 ^ (entry tickets j % 64))) 0 || eqb (holdersIn tickets slots (entry tickets j)) (2 ^ j)
+
+-- at most one job names the database, and no step presses on another; no row has a dependency
+unfoldable pub quiet : ℕ → ℕ → ℕ → Bool
+quiet named waiting under = eqb (excluding named (lowest jobs named)) 0 && (eqb waiting 0 || eqb under 0)
+
+unfoldable pub rowsEmpty : List ℕ → ℕ → Bool
+rowsEmpty dependencies k = eqb (unionOf jobs (λ b. less jobs (entry dependencies (k * jobs + b)) 0)) 0

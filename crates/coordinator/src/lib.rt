@@ -15,6 +15,7 @@ mod order;
 mod refusal;
 mod release;
 mod remove;
+mod rows;
 mod sound;
 mod tickets;
 mod views;

@@ -1,14 +1,15 @@
 // Whether a state is sound. It is tested before every call, so all of it is operations on sets of slots, over lent arrays.
 use crate::Coordinator;
 use crate::differ;
+use crate::rows;
 use crate::views;
 ghost use mathlib.Core.Path.{_≡_};
 ghost use Prim.Native.Nat.{ℕ, _*_, _<_};
 ghost use lib.ListN.{drop};
 ghost use Rattle.loops.specs.Loop.{every};
 ghost use Rattle.coordinator.specs.Limits.{jobs, databases};
-ghost use Rattle.coordinator.specs.Test.{placeSound, partners, pressing, marksSound, rowsSound, databaseSound, sound};
-ghost use Rattle.coordinator.specs.Parts.{tables, orderOnly, stepsOnly, placeIn, rowWrong, stepsSound};
+ghost use Rattle.coordinator.specs.Test.{placeSound, marksSound, databaseSound, sound};
+ghost use Rattle.coordinator.specs.Parts.{tables, orderOnly, stepsOnly, placeIn, stepsSound};
 
 // Place i of the opening order, with slot o: one of those left, or zero past the n open ones.
 fn place_sound(left: u32, n: u32, i: usize, o: u8) -> bool
@@ -44,55 +45,6 @@ fn marks_sound(named: u32, asked: u32, released: u32, confirmed: u32, held: u32)
     asked & !named | released & !asked | confirmed & !released | held & named & !confirmed == 0
 }
 
-// Who may go before slot b, and who has to.
-fn partners(named: u32, b: usize) -> u32
-    requires { ⌜ b < jobs ⌝ }
-    ensures { λ r. ⌜ r ≡ partners named b ⌝ }
-{
-    let at = 1u32 << b;
-    if named & at != 0 { named & !at } else { 0 }
-}
-
-fn pressing(waiting: u32, under: u32, b: usize) -> u32
-    requires { ⌜ b < jobs ⌝ }
-    ensures { λ r. ⌜ r ≡ pressing waiting under b ⌝ }
-{
-    if waiting & 1 << b != 0 { under } else { 0 }
-}
-
-// Those that go before slot b and may not, and those that have to and do not.
-fn row_wrong(named: u32, waiting: u32, under: u32, b: usize, into: u32) -> u32
-    requires { ⌜ b < jobs ⌝ }
-    ensures { λ r. ⌜ r ≡ rowWrong named waiting under b into ⌝ }
-{
-    into & !partners(named, b) | pressing(waiting, under, b) & !into
-}
-
-// The dependencies at database k. What is wrong is gathered without a branch.
-fn rows_sound(
-    dependencies: &[u32; Coordinator::STEPS],
-    k: usize,
-    named: u32,
-    waiting: u32,
-    under: u32,
-) -> bool
-    requires { ⌜ k < databases ⌝ }
-    ensures { λ r. ⌜ r ≡ rowsSound (drop (k * jobs) (now (dependencies .entry))) named waiting under ⌝ }
-{
-    let mut wrong = 0u32;
-    for b in 0..Coordinator::JOBS {
-        wrong = wrong
-            | row_wrong(
-                named,
-                waiting,
-                under,
-                b,
-                dependencies[k * Coordinator::JOBS + b],
-            );
-    }
-    wrong == 0
-}
-
 // The steps at database k.
 fn steps_sound(
     named: u32,
@@ -109,7 +61,7 @@ fn steps_sound(
     if !marks_sound(named, asked, released, confirmed, held) {
         return false;
     }
-    rows_sound(
+    rows::rows_sound(
         dependencies,
         k,
         named,

@@ -7,7 +7,7 @@ use Rattle.coordinator.proofs.sound.steps_sound.Tie as tie
 use Rattle.coordinator.proofs.sound.steps_sound.Reads as reads
 use Rattle.coordinator.proofs.sound.steps_sound.Lts as lts
 use Rattle.coordinator.proofs.sound.marks_sound.Reads as marks-sound-reads
-use Rattle.coordinator.proofs.sound.rows_sound.Reads as rows-sound-reads
+use Rattle.coordinator.proofs.rows.rows_sound.Reads as rows-sound-reads
 
 -- src/sound.rt:134:9
 marks-sound-requires : tie.Need-marks-sound-requires

@@ -1,11 +1,11 @@
 use Rattle.coordinator.specs.Parts.{rowWrong}
 use borrow.Author.Needs.{needs}
-use Rattle.coordinator.proofs.sound.row_wrong.Statement.{statement}
-use Rattle.coordinator.proofs.sound.row_wrong.Tie as tie
-use Rattle.coordinator.proofs.sound.row_wrong.Reads as reads
-use Rattle.coordinator.proofs.sound.row_wrong.Lts as lts
-use Rattle.coordinator.proofs.sound.partners.Reads as partners-reads
-use Rattle.coordinator.proofs.sound.pressing.Reads as pressing-reads
+use Rattle.coordinator.proofs.rows.row_wrong.Statement.{statement}
+use Rattle.coordinator.proofs.rows.row_wrong.Tie as tie
+use Rattle.coordinator.proofs.rows.row_wrong.Reads as reads
+use Rattle.coordinator.proofs.rows.row_wrong.Lts as lts
+use Rattle.coordinator.proofs.rows.partners.Reads as partners-reads
+use Rattle.coordinator.proofs.rows.pressing.Reads as pressing-reads
 
 -- src/sound.rt:93:13
 partners-requires : tie.Need-partners-requires

@@ -2,10 +2,10 @@ use mathlib.Core.Path.{refl}
 use Rattle.mask.proofs.Words.{meets-shl, misses-shl}
 use Rattle.coordinator.specs.Test.{pressing}
 use borrow.Author.Needs.{needs}
-use Rattle.coordinator.proofs.sound.pressing.Statement.{statement}
-use Rattle.coordinator.proofs.sound.pressing.Tie as tie
-use Rattle.coordinator.proofs.sound.pressing.Reads as reads
-use Rattle.coordinator.proofs.sound.pressing.Lts as lts
+use Rattle.coordinator.proofs.rows.pressing.Statement.{statement}
+use Rattle.coordinator.proofs.rows.pressing.Tie as tie
+use Rattle.coordinator.proofs.rows.pressing.Reads as reads
+use Rattle.coordinator.proofs.rows.pressing.Lts as lts
 
 -- src/sound.rt:85:23
 cast-if1 : tie.Need-cast-if1

@@ -11,11 +11,11 @@ use Rattle.mask.specs.Members.{unionOf}
 use Rattle.coordinator.specs.Limits.{jobs}
 use Rattle.coordinator.specs.Parts.{rowWrong}
 use Rattle.coordinator.proofs.Testing.{rows-are}
-use Rattle.coordinator.proofs.sound.rows_sound.Statement.{statement}
-use Rattle.coordinator.proofs.sound.rows_sound.Tie as tie
-use Rattle.coordinator.proofs.sound.rows_sound.Reads as reads
-use Rattle.coordinator.proofs.sound.rows_sound.Lts as lts
-use Rattle.coordinator.proofs.sound.row_wrong.Reads as row-wrong-reads
+use Rattle.coordinator.proofs.rows.rows_apart.Statement.{statement}
+use Rattle.coordinator.proofs.rows.rows_apart.Tie as tie
+use Rattle.coordinator.proofs.rows.rows_apart.Reads as reads
+use Rattle.coordinator.proofs.rows.rows_apart.Lts as lts
+use Rattle.coordinator.proofs.rows.row_wrong.Reads as row-wrong-reads
 
 abbrev Inv-loop : tie.InvT-loop
 Inv-loop dependencies k named waiting under wrong₀ b₀ wrong b = (b ≤ jobs) × (wrong ≡ over b (λ i m. bitOr m (rowWrong named waiting under i (getD dependencies (k * jobs + i) 0))) 0)
@@ -64,8 +64,8 @@ returns : tie.Need-returns Inv-loop μ-loop
 unfolding unionOf
 returns c = ap (λ (x : ℕ). eqb x 0) (over-done _ _ jobs _ (c .before .loop .inv .0) (c .loop-test .left) (c .before .loop .inv .1)) ∙ rows-are (c .before .before .args .dependencies .now) (c .before .before .args .k) _ _ _
 
-pub rows-sound-spec : {M : Type 1} → statement M
-rows-sound-spec =
+pub rows-apart-spec : {M : Type 1} → statement M
+rows-apart-spec =
     tie.close
     (tie.spec
     Inv-loop

@@ -2,10 +2,10 @@ use mathlib.Core.Path.{refl}
 use Rattle.mask.proofs.Words.{and-not-shl, meets-shl, misses-shl}
 use Rattle.coordinator.specs.Test.{partners}
 use borrow.Author.Needs.{needs}
-use Rattle.coordinator.proofs.sound.partners.Statement.{statement}
-use Rattle.coordinator.proofs.sound.partners.Tie as tie
-use Rattle.coordinator.proofs.sound.partners.Reads as reads
-use Rattle.coordinator.proofs.sound.partners.Lts as lts
+use Rattle.coordinator.proofs.rows.partners.Statement.{statement}
+use Rattle.coordinator.proofs.rows.partners.Tie as tie
+use Rattle.coordinator.proofs.rows.partners.Reads as reads
+use Rattle.coordinator.proofs.rows.partners.Lts as lts
 
 -- src/sound.rt:77:22
 cast-at : tie.Need-cast-at
