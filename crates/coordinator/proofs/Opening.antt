@@ -29,10 +29,10 @@ use Rattle.coordinator.specs.Open.{freeSlot, heldTickets, ticketFor, ent
 use Rattle.coordinator.specs.Open as open-spec
 use Rattle.coordinator.proofs.Refusing.{refused, passed, no-row}
 
-module _ (mask slots r : ℕ) (b : Bool) (e : r ≡ numberOf (slotRefusal b mask slots)) where
+module _ (mask slots r : ℕ) (b : Bool) (e : r ≡ numberOf (slotRefusal b mask (size jobs slots))) where
   -- no refusal: there is a slot
   module _ (z : r ≡ 0) where
-    none-applies : (slotRefusal b mask slots ≡ none) × (eqb (size jobs slots) jobs ≡ false)
+    none-applies : (slotRefusal b mask (size jobs slots) ≡ none) × (eqb (size jobs slots) jobs ≡ false)
     unfolding slotRefusal
     none-applies =
         let first = passed _ _ (λ h. omega arith) (sym e ∙ z) in
@@ -47,13 +47,13 @@ module _ (mask slots r : ℕ) (b : Bool) (e : r ≡ numberOf (slotRefusal b mask
     slot-fits h n at = rw at (size-free jobs slots h room-left .within)
 
   module _ (s : Coordinator) (p : b ≡ sound s) (q : slots ≡ openSlots s) where
-    rows-are : slotRefusal b mask slots ≡ openRefusal s mask
+    rows-are : slotRefusal b mask (size jobs slots) ≡ openRefusal s mask
     unfolding slotRefusal openRefusal openCount
     rows-are = rw (p, q)
 
     pub open-refused : ¬ (r ≡ 0) → record { answer = OpenAnswer.Refused r; state = s } ≡ afterOpen s mask
     unfolding afterOpen
-    open-refused n = rw (afterOpen, sym rows-are ∙ refused (slotRefusal b mask slots) r e n)
+    open-refused n = rw (afterOpen, sym rows-are ∙ refused (slotRefusal b mask (size jobs slots)) r e n)
 
     pub open-accepted : r ≡ 0 → (n : ℕ) → n ≡ lowest jobs (2 ^ jobs - 1 - slots) → accepted s n mask ≡ afterOpen s mask
     unfolding afterOpen freeSlot

@@ -5,7 +5,6 @@ use mathlib.Core.List.{List, [], _∷_}
 use mathlib.Core.Option.{Option, none, some}
 use lib.Dec.{eqb, ltb}
 use Rattle.loops.specs.Loop.{every}
-use Rattle.mask.specs.Member.{size}
 use Rattle.coordinator.specs.declared.Coordinator.{Coordinator}
 use Rattle.coordinator.specs.Limits.{jobs, databases}
 use Rattle.coordinator.specs.Views.{inMask, names, asked, released, confirmed, openCount, held}
@@ -30,25 +29,16 @@ numberOf (some n) = n
 unfoldable pub allConfirmed : Coordinator → ℕ → Bool
 allConfirmed s j = every databases (λ k. not (names s j k) || confirmed s j k)
 
-unfoldable pub openRefusal : Coordinator → ℕ → Option ℕ
-openRefusal s mask =
-    firstRow
-    (record { applies = not (sound s); number = 10 }
-    ∷ record { applies = eqb mask 0; number = 1 }
-    ∷ record { applies = eqb (openCount s) jobs; number = 2 }
-    ∷ [])
-
--- an opening's rows, of what the code has read by then: whether the state is sound, the mask, the open slots
+-- the rows of an opening: whether the state is sound, the mask, how many jobs are open
 unfoldable pub slotRefusal : Bool → ℕ → ℕ → Option ℕ
-slotRefusal isSound mask slots =
+slotRefusal isSound mask count =
     firstRow
     (record { applies = not isSound; number = 10 }
     ∷ record { applies = eqb mask 0; number = 1 }
-    ∷ record { applies = eqb (size jobs slots) jobs; number = 2 }
+    ∷ record { applies = eqb count jobs; number = 2 }
     ∷ [])
 
--- what ask and confirm share, of what the code has read by then: whether the state is sound, the slots that hold the ticket, whether the job names
--- database k; the last row is the call's own
+-- the rows of ask and confirm: whether the state is sound, the slots that hold the ticket, whether the job names database k; the last row is the call's own
 unfoldable pub stepRefusal : Bool → ℕ → ℕ → Bool → Bool → ℕ → Option ℕ
 stepRefusal isSound found k names applies number =
     firstRow
@@ -59,28 +49,7 @@ stepRefusal isSound found k names applies number =
     ∷ record { applies = applies; number = number }
     ∷ [])
 
-unfoldable pub askRefusal : Coordinator → ℕ → ℕ → Option ℕ
-askRefusal s t k =
-    firstRow
-    (record { applies = not (sound s); number = 10 }
-    ∷ record { applies = eqb (holders s t) 0; number = 3 }
-    ∷ record { applies = not (ltb k databases); number = 4 }
-    ∷ record { applies = not (inMask s (holder s t) k); number = 5 }
-    ∷ record { applies = asked s (holder s t) k; number = 6 }
-    ∷ [])
-
-unfoldable pub confirmRefusal : Coordinator → ℕ → ℕ → Option ℕ
-confirmRefusal s t k =
-    firstRow
-    (record { applies = not (sound s); number = 10 }
-    ∷ record { applies = eqb (holders s t) 0; number = 3 }
-    ∷ record { applies = not (ltb k databases); number = 4 }
-    ∷ record { applies = not (inMask s (holder s t) k); number = 5 }
-    ∷ record { applies = not (released s (holder s t) k) || confirmed s (holder s t) k; number = 7 }
-    ∷ [])
-
--- a close's rows, of what the code has read by then: whether the state is sound, the slots that hold the ticket, whether every step of the job is confirmed,
--- whether its close is held
+-- the rows of a close: whether the state is sound, the slots that hold the ticket, whether every step of the job is confirmed, whether its close is held
 unfoldable pub jobRefusal : Bool → ℕ → Bool → Bool → Option ℕ
 jobRefusal isSound found isConfirmed isHeld =
     firstRow
@@ -90,11 +59,15 @@ jobRefusal isSound found isConfirmed isHeld =
     ∷ record { applies = isHeld; number = 9 }
     ∷ [])
 
+unfoldable pub openRefusal : Coordinator → ℕ → Option ℕ
+openRefusal s mask = slotRefusal (sound s) mask (openCount s)
+
+unfoldable pub askRefusal : Coordinator → ℕ → ℕ → Option ℕ
+askRefusal s t k = stepRefusal (sound s) (holders s t) k (inMask s (holder s t) k) (asked s (holder s t) k) 6
+
+unfoldable pub confirmRefusal : Coordinator → ℕ → ℕ → Option ℕ
+confirmRefusal s t k =
+    stepRefusal (sound s) (holders s t) k (inMask s (holder s t) k) (not (released s (holder s t) k) || confirmed s (holder s t) k) 7
+
 unfoldable pub closeRefusal : Coordinator → ℕ → Option ℕ
-closeRefusal s t =
-    firstRow
-    (record { applies = not (sound s); number = 10 }
-    ∷ record { applies = eqb (holders s t) 0; number = 3 }
-    ∷ record { applies = not (allConfirmed s (holder s t)); number = 8 }
-    ∷ record { applies = held s (holder s t); number = 9 }
-    ∷ [])
+closeRefusal s t = jobRefusal (sound s) (holders s t) (allConfirmed s (holder s t)) (held s (holder s t))

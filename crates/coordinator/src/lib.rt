@@ -20,8 +20,9 @@ mod sound;
 mod tickets;
 mod views;
 
-use answers::AskAnswer;
+use numbers::Database;
 use numbers::NumberMaker;
+use numbers::Slot;
 use numbers::Ticket;
 ghost use mathlib.Core.Path.{_≡_};
 ghost use Rattle.coordinator.specs.Fresh.{fresh};
@@ -41,9 +42,9 @@ pub struct Coordinator {
 }
 
 impl Coordinator {
-    pub const JOBS: usize = 32;
+    pub const JOBS: usize = Slot::COUNT;
 
-    pub const DATABASES: usize = 16;
+    pub const DATABASES: usize = Database::COUNT;
 
     pub const STEPS: usize = Coordinator::JOBS * Coordinator::DATABASES;
 

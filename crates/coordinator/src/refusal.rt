@@ -2,11 +2,13 @@
 use crate::Coordinator;
 use numbers::Database;
 ghost use mathlib.Core.Path.{_≡_};
+ghost use Rattle.mask.specs.Member.{size};
+ghost use Rattle.coordinator.specs.Limits.{jobs};
 ghost use Rattle.coordinator.specs.Refusal.{numberOf, slotRefusal, stepRefusal, jobRefusal};
 
 // Of open.
 pub(crate) fn of_open(sound: bool, mask: u16, slots: u32) -> u8
-    ensures { λ r. ⌜ r ≡ numberOf (slotRefusal sound mask slots) ⌝ }
+    ensures { λ r. ⌜ r ≡ numberOf (slotRefusal sound mask (size jobs slots)) ⌝ }
 {
     let names_none = mask == 0;
     let is_full = mask::slots::size(slots) as usize == Coordinator::JOBS;

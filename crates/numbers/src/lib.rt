@@ -8,8 +8,17 @@ pub struct Ticket(pub u16);
 // A job's place in the state.
 pub struct Slot(pub u8);
 
+impl Slot {
+    // How many jobs may be open at a time.
+    pub const COUNT: usize = 32;
+}
+
 // A database's number.
 pub struct Database(pub u8);
+
+impl Database {
+    pub const COUNT: usize = 16;
+}
 
 // What gives out tickets: the candidate that the next one starts from.
 pub struct NumberMaker {

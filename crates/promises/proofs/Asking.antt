@@ -19,7 +19,7 @@ use Rattle.coordinator.specs.Views.{inMask, names, asked, released, isOpen}
 use Rattle.coordinator.specs.Holder.{holders, holder}
 use Rattle.coordinator.specs.Change.{markAsked}
 use Rattle.coordinator.specs.Release.{mayGo, release}
-use Rattle.coordinator.specs.Refusal.{askRefusal}
+use Rattle.coordinator.specs.Refusal.{askRefusal, stepRefusal}
 use Rattle.coordinator.specs.Ask.{askedFor, afterAsk}
 use Rattle.coordinator.specs.Answer.{askValues}
 use Rattle.coordinator.specs.Call.{askStep, play}
@@ -106,7 +106,7 @@ module _ (m : Moment) (I : Invariant m) (k j : ℕ) (l : k < databases) (o : isO
 
 module _ (s : Coordinator) (t k : ℕ) where
   pub refusal-numbered : (n : ℕ) → askRefusal s t k ≡ some n → ¬ (n ≡ 0)
-  unfolding askRefusal
+  unfolding askRefusal stepRefusal
   refusal-numbered n e = numbered _ n (omega arith, (omega arith, (omega arith, (omega arith, (omega arith, tt))))) e
 
 module _ (m : Moment) (I : Invariant m) (t k : ℕ) where

@@ -23,7 +23,7 @@ use Rattle.coordinator.specs.Views.{isOpen, names, confirmed, held, into, ticke
 use Rattle.coordinator.specs.Holder.{holders, holder}
 use Rattle.coordinator.specs.Change.{markHeld, removed, place}
 use Rattle.coordinator.specs.Release.{mayClose}
-use Rattle.coordinator.specs.Refusal.{closeRefusal}
+use Rattle.coordinator.specs.Refusal.{closeRefusal, jobRefusal}
 use Rattle.coordinator.specs.Close.{Closing, noTickets, closeOne, closeHeld, closing, closedAt, afterClose}
 use Rattle.coordinator.specs.Answer.{closeValues}
 use Rattle.coordinator.specs.Call.{closeJob, play}
@@ -143,7 +143,7 @@ module _ (m : Moment) (I : Invariant m) (j : ℕ) (o : isOpen (m .state) j ≡ t
 
 module _ (s : Coordinator) (t : ℕ) where
   pub refusal-numbered : (n : ℕ) → closeRefusal s t ≡ some n → ¬ (n ≡ 0)
-  unfolding closeRefusal
+  unfolding closeRefusal jobRefusal
   refusal-numbered n e = numbered _ n (omega arith, (omega arith, (omega arith, (omega arith, tt)))) e
 
 module _ (m : Moment) (I : Invariant m) (t : ℕ) where

@@ -20,7 +20,7 @@ use Rattle.coordinator.specs.Views.{asked, released, confirmed, isOpen, ticket}
 use Rattle.coordinator.specs.Holder.{holders, holder}
 use Rattle.coordinator.specs.Change.{markConfirmed}
 use Rattle.coordinator.specs.Release.{mayGo, mayGoAt, firstOf, release}
-use Rattle.coordinator.specs.Refusal.{confirmRefusal}
+use Rattle.coordinator.specs.Refusal.{confirmRefusal, stepRefusal}
 use Rattle.coordinator.specs.Confirm.{releasedOne, confirmedAt, afterConfirm}
 use Rattle.coordinator.specs.Answer.{confirmValues}
 use Rattle.coordinator.specs.Call.{confirmStep, play}
@@ -122,7 +122,7 @@ module _ (m : Moment) (I : Invariant m) (k j : ℕ) (l : k < databases) (o : isO
 
 module _ (s : Coordinator) (t k : ℕ) where
   pub refusal-numbered : (n : ℕ) → confirmRefusal s t k ≡ some n → ¬ (n ≡ 0)
-  unfolding confirmRefusal
+  unfolding confirmRefusal stepRefusal
   refusal-numbered n e = numbered _ n (omega arith, (omega arith, (omega arith, (omega arith, (omega arith, tt))))) e
 
 module _ (m : Moment) (I : Invariant m) (t k : ℕ) where

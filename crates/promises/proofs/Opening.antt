@@ -20,7 +20,7 @@ use Rattle.coordinator.specs.Limits.{jobs}
 use Rattle.coordinator.specs.Shape.{Shape}
 use Rattle.coordinator.specs.Sound.{Sound}
 use Rattle.coordinator.specs.Views.{entry, isOpen, openCount, names, dep}
-use Rattle.coordinator.specs.Refusal.{openRefusal}
+use Rattle.coordinator.specs.Refusal.{openRefusal, slotRefusal}
 use Rattle.coordinator.specs.Open.{freeSlot, ticketFor, entered, searched, withFound, added, accepted, afterOpen}
 use Rattle.coordinator.specs.Answer.{openValues}
 use Rattle.coordinator.specs.Call.{openJob, play}
@@ -112,7 +112,7 @@ module _ (m : Moment) (I : Invariant m) (mask : ℕ) (fits : mask < 2 ^ 16) (som
 
 module _ (s : Coordinator) (mask : ℕ) where
   pub refusal-numbered : (n : ℕ) → openRefusal s mask ≡ some n → ¬ (n ≡ 0)
-  unfolding openRefusal
+  unfolding openRefusal slotRefusal
   refusal-numbered n e = numbered _ n (omega arith, (omega arith, (omega arith, tt))) e
 
 module _ (m : Moment) (I : Invariant m) (mask : ℕ) (fits : mask < 2 ^ 16) where

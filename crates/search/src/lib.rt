@@ -1,5 +1,5 @@
 // The opening search of document 01. Visiting a job leads to its databases, and visiting a database leads to jobs again.
-// Its arrays hold sets of slots. `named` at u: those that name u. `dependencies` at u * 32 + w: those that go before w at u.
+// Its arrays hold sets of slots. `named` at u: those that name u. `dependencies` at u * Slot::COUNT + w: those that go before w at u.
 // `reached` at u: those reached through u. `found` at u: those with a found dependency to the new job at u.
 use numbers::Database;
 use numbers::Slot;
@@ -11,32 +11,39 @@ ghost use Rattle.mask.specs.Member.{holds};
 ghost use Rattle.search.specs.Search.{sought};
 ghost use Rattle.search.specs.Visit.{seek, Ready, Candidates, visitedJob, visitedDatabase};
 
+const STEPS: usize = Slot::COUNT * Database::COUNT;
+
+// The limits as a slot's and a database's number have them.
+const SLOTS: u8 = Slot::COUNT as u8;
+
+const DATABASES: u8 = Database::COUNT as u8;
+
 pub struct Sought {
-    pub found: [u32; 16],
+    pub found: [u32; Database::COUNT],
     pub moves: u32,
 }
 
 // The opening search for the new job in slot n. Beyond the last slot there is no job, and nothing is found.
-pub fn search(named: &[u32; 16], dependencies: &[u32; 512], n: Slot) -> Sought
+pub fn search(named: &[u32; Database::COUNT], dependencies: &[u32; STEPS], n: Slot) -> Sought
     ensures { λ r. ⌜ r ≡ sought (now (named .entry)) (now (dependencies .entry)) (n .0) ⌝ }
 {
-    let mut reached = [0u32; 16];
-    let mut found = [0u32; 16];
-    if n.0 >= 32 {
+    let mut reached = [0u32; Database::COUNT];
+    let mut found = [0u32; Database::COUNT];
+    if n.0 >= SLOTS {
         return Sought { found, moves: 0 };
     }
     // The new job is reached through no database.
-    let none = Database(16);
+    let none = Database(DATABASES);
     let moves = visit_job(named, dependencies, &mut reached, &mut found, n, n, none, 0);
     Sought { found, moves }
 }
 
 // From slot v, reached through database `via`, to its other databases.
 fn visit_job(
-    named: &[u32; 16],
-    dependencies: &[u32; 512],
-    reached: &mut [u32; 16],
-    found: &mut [u32; 16],
+    named: &[u32; Database::COUNT],
+    dependencies: &[u32; STEPS],
+    reached: &mut [u32; Database::COUNT],
+    found: &mut [u32; Database::COUNT],
     n: Slot,
     v: Slot,
     via: Database,
@@ -46,7 +53,7 @@ fn visit_job(
     ensures { λ r. ⌜ seek (now (reached .exit)) (now (found .exit)) r ≡ visitedJob (now (named .entry)) (now (dependencies .entry)) (n .0) (v .0) (via .0) (seek (now (reached .entry)) (now (found .entry)) moves) ⌝ }
 {
     let mut t = moves;
-    for u in 0..16 {
+    for u in 0..Database::COUNT {
         if u != via.0 as usize {
             if (named[u] >> v.0) % 2 == 1 {
                 let k = u as u8;
@@ -73,10 +80,10 @@ fn candidates(all: u32, reached: u32, found: u32, n: Slot, v: Slot) -> u32
 
 // From database u, come to from slot v which names it, to the other slots that name it.
 fn visit_database(
-    named: &[u32; 16],
-    dependencies: &[u32; 512],
-    reached: &mut [u32; 16],
-    found: &mut [u32; 16],
+    named: &[u32; Database::COUNT],
+    dependencies: &[u32; STEPS],
+    reached: &mut [u32; Database::COUNT],
+    found: &mut [u32; Database::COUNT],
     n: Slot,
     v: Slot,
     u: Database,
@@ -91,7 +98,7 @@ fn visit_database(
     while m != 0 {
         let low = mask::slots::lowest(m) as u8;
         let w = Slot(low);
-        let at = k * 32 + w.0 as usize;
+        let at = k * Slot::COUNT + w.0 as usize;
         if (dependencies[at] >> v.0) % 2 != 1 {
             if w.0 == n.0 {
                 let x = found[k];

@@ -15,7 +15,7 @@ use Rattle.coordinator.specs.Shape.{Shape}
 use Rattle.coordinator.specs.Views.{inMask, names, released, confirmed, openCount}
 use Rattle.coordinator.specs.Holder.{holders, holder}
 use Rattle.coordinator.specs.Test.{sound}
-use Rattle.coordinator.specs.Refusal.{Row, firstRow, allConfirmed, openRefusal, askRefusal, confirmRefusal, closeRefusal}
+use Rattle.coordinator.specs.Refusal.{Row, firstRow, allConfirmed, openRefusal, askRefusal, confirmRefusal, closeRefusal, jobRefusal, slotRefusal, stepRefusal}
 use Rattle.effects.proofs.Bounds.{names-range, count-le}
 use Rattle.effects.proofs.Holder.{holder-is}
 use Rattle.soundness.specs.Accepted.{OpenAccepted, HolderOf, AskAccepted, ConfirmAccepted, CloseAccepted}
@@ -41,7 +41,7 @@ module _ (s : Coordinator) where
       record { slot = l; is-open = o; holds = q }
 
   pub ask-accepted : (t k : ℕ) → askRefusal s t k ≡ none → AskAccepted s t k
-  unfolding askRefusal names
+  unfolding askRefusal names stepRefusal
   ask-accepted t k e =
       let (r10, e3) = passed _ _ e in
       let (r3, e4) = passed _ _ e3 in
@@ -57,7 +57,7 @@ module _ (s : Coordinator) where
       }
 
   pub confirm-accepted : (t k : ℕ) → confirmRefusal s t k ≡ none → ConfirmAccepted s t k
-  unfolding confirmRefusal names
+  unfolding confirmRefusal names stepRefusal
   confirm-accepted t k e =
       let (r10, e3) = passed _ _ e in
       let (r3, e4) = passed _ _ e3 in
@@ -76,7 +76,7 @@ module _ (s : Coordinator) where
 
 module _ (s : Coordinator) (h : Shape s) where
   pub open-accepted : (mask : ℕ) → openRefusal s mask ≡ none → OpenAccepted s mask
-  unfolding openRefusal
+  unfolding openRefusal slotRefusal
   open-accepted mask e =
       let (r10, e1) = passed _ _ e in
       let (r1, e2) = passed _ _ e1 in
@@ -92,7 +92,7 @@ module _ (s : Coordinator) (h : Shape s) where
   confirmed-all j e k n = then-true (names s j k) (confirmed s j k) (every-at databases _ e k (names-range s h j k n .1)) n
 
   pub close-accepted : (t : ℕ) → closeRefusal s t ≡ none → CloseAccepted s t
-  unfolding closeRefusal
+  unfolding closeRefusal jobRefusal
   close-accepted t e =
       let (r10, e3) = passed _ _ e in
       let (r3, e8) = passed _ _ e3 in

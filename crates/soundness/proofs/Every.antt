@@ -7,7 +7,7 @@ use Rattle.coordinator.specs.declared.Coordinator.{Coordinator}
 use Rattle.coordinator.specs.Shape.{Shape}
 use Rattle.coordinator.specs.Sound.{Sound}
 use Rattle.coordinator.specs.Test.{sound}
-use Rattle.coordinator.specs.Refusal.{firstRow, openRefusal, askRefusal, confirmRefusal, closeRefusal}
+use Rattle.coordinator.specs.Refusal.{firstRow, openRefusal, askRefusal, confirmRefusal, closeRefusal, jobRefusal, slotRefusal, stepRefusal}
 use Rattle.coordinator.specs.Call.{Call, openJob, askStep, confirmStep, closeJob, play}
 use Rattle.decision.proofs.Decides.{sound-iff}
 use Rattle.soundness.specs.Kept.{MaskFits}
@@ -27,7 +27,7 @@ module _ (s : Coordinator) (h : Shape s) where
   accepted-sound c fits e = let S = sound-iff s h .0 (accepted-tested c e) in (S, play-sound s c fits h S .1)
 
   pub damaged-refused : ¬ Sound s → (c : Call) → refusalOf s c ≡ some 10
-  unfolding refusalOf openRefusal askRefusal confirmRefusal closeRefusal firstRow
+  unfolding refusalOf openRefusal askRefusal confirmRefusal closeRefusal firstRow slotRefusal stepRefusal jobRefusal
   damaged-refused damaged c = ten c (untrue (sound s) (λ e. damaged (sound-iff s h .0 e)))
     where
       ten : (c : Call) → sound s ≡ false → refusalOf s c ≡ some 10

@@ -15,7 +15,7 @@ use Rattle.coordinator.specs.Shape.{Shape}
 use Rattle.coordinator.specs.Sound.{Sound}
 use Rattle.coordinator.specs.Views.{isOpen, openCount}
 use Rattle.coordinator.specs.Holder.{holder}
-use Rattle.coordinator.specs.Refusal.{Row, openRefusal, closeRefusal}
+use Rattle.coordinator.specs.Refusal.{Row, openRefusal, closeRefusal, slotRefusal}
 use Rattle.coordinator.specs.Test.{sound}
 use Rattle.coordinator.specs.Change.{removed}
 use Rattle.coordinator.specs.Release.{mayClose, mayCloseNow, firstOf}
@@ -81,7 +81,7 @@ closed-went s t n e = by (closeRefusal s t) refl
 
 -- refusal 2 tells that every slot is taken
 two-full : (s : Coordinator) (mask : ℕ) → openRefusal s mask ≡ some 2 → openCount s ≡ jobs
-unfolding openRefusal
+unfolding openRefusal slotRefusal
 two-full s mask e = let f = first-applies _ 2 e in by (f .place) (f .inside) (f .number) (f .applies)
   where
     table : List Row
