@@ -8,6 +8,8 @@ cd "$(dirname "$0")"
 cargo test --offline --release --quiet
 cargo build --offline --release --quiet
 make --silent
+make --silent target/example "HOST_LIB=${HOST_LIB:-target/lean-boundary}"
+target/example | cmp - example.out
 
 bin=target/release
 while read -r parameters; do

@@ -1,5 +1,4 @@
-//! The proved library behind its C boundary. What its bytes mean is said here
-//! and nowhere else.
+//! The proved library behind its C boundary, as `unkenlaterne.h` declares it.
 
 use crate::compare::{Player, Record, Row};
 use crate::layout::{Bytes, SIZE};

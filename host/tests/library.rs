@@ -1,8 +1,8 @@
 //! The proved library against the plain implementation, where it is linked.
 #![cfg(library_linked)]
 
-use host::compare;
 use host::call::Coordinator;
+use host::compare;
 use host::layout::SIZE;
 use host::library::{self, Library, SingleCalls};
 use host::plain::Plain;
