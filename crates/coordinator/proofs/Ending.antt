@@ -23,7 +23,7 @@ use Rattle.coordinator.proofs.Tables.{may-close-is}
 use Rattle.coordinator.proofs.Refusing.{refused, passed, no-row}
 use Rattle.coordinator.proofs.Step.{Read, slot-below}
 
--- ---- refusal number 0: no row applies
+-- refusal number 0: no row applies
 
 some-hold : (b : Bool) (f : ℕ) (isConfirmed isHeld : Bool) → numberOf (jobRefusal b f isConfirmed isHeld) ≡ 0 → (jobRefusal b f isConfirmed isHeld ≡ none) × ¬ (f ≡ 0)
 unfolding jobRefusal
@@ -54,7 +54,7 @@ module _ {s : Coordinator} {t : ℕ} {b : Bool} {f j : ℕ} (r : Read s t b f j)
       let p = some-hold b f isConfirmed isHeld (sym e ∙ z) in
       record { none-applies = sym rows ∙ p .0; some = p .1; slot = r .slot; fits = slot-below r (p .1) }
 
--- ---- the three ends
+-- the three ends
 
 module _ (s : Coordinator) (t : ℕ) where
   pub close-refused : (r : ℕ) → r ≡ numberOf (closeRefusal s t) → ¬ (r ≡ 0)

@@ -30,7 +30,7 @@ use Rattle.coordinator.specs.Test.{ticketSound}
 use Rattle.coordinator.specs.Tables.{sharersIn, holdersIn}
 use Rattle.coordinator.specs.Parts.{ticketsOnly, freeTicket, noTicket, ownTicket, newTicket}
 
--- ---- in two tests
+-- in two tests
 
 and-yes : (b : Bool) → b && true ≡ b
 and-yes true = refl
@@ -62,7 +62,7 @@ pub free-are : (tickets : List ℕ) (slots : ℕ) → eqb (unionOf jobs (freeTic
 unfolding noTicket
 free-are tickets slots = union-empty (freeTicket tickets slots) jobs
 
--- ---- only slot j holds its ticket
+-- only slot j holds its ticket
 
 module _ (tickets : List ℕ) (slots : ℕ) where
   pub holds-holders : (t a : ℕ) → a < jobs → holds (holdersIn tickets slots t) a ≡ eqb (entry tickets a) t && holds slots a
@@ -121,7 +121,7 @@ module _ (tickets : List ℕ) (slots : ℕ) where
   new-seen seen j r ne l e =
       rw (ne-eqb (bitAnd seen (2 ^ (entry tickets j % 64))) 0 (rw (one-shl 64 (entry tickets j % 64) (mod-lt (entry tickets j) (lit< tt))) at ne), e, one-shl 32 j l)
 
-  -- ---- a walk over the open slots: those not in m were met, and what their tickets are modulo 64 was seen
+  -- a walk over the open slots: those not in m were met, and what their tickets are modulo 64 was seen
 
   pub record Met (seen m : ℕ) : Type 0 where
     pub among : (j : ℕ) → holds m j ≡ true → holds slots j ≡ true

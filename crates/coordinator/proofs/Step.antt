@@ -45,7 +45,7 @@ holder-below s t n =
     let l : holders s t < 2 ^ jobs = omega (arith, and-le-l (sharers s t) (openSlots s), gathered-lt (λ j. eqb (ticket s j) t) jobs) in
     trailing-lowest jobs (holders s t) (omega arith) l .within
 
--- ---- refusal number 0: no row applies
+-- refusal number 0: no row applies
 
 module _ (b : Bool) (f k : ℕ) (names applies : Bool) (m : ℕ) (n : ¬ (m ≡ 0)) (e : numberOf (stepRefusal b f k names applies m) ≡ 0) where
   pub record Passed : Type 0 where
@@ -78,7 +78,7 @@ module _ {s : Coordinator} {t : ℕ} {b : Bool} {f j : ℕ} (r : Read s t b f j)
   unfolding stepRefusal confirmRefusal inMask released confirmed
   confirm-rows k names applies p q = rw (p, q, r .soundness, r .found, r .slot)
 
--- ---- a call that is not refused: o is its refusal, and what it changes is in range
+-- a call that is not refused: o is its refusal, and what it changes is in range
 
 pub record Accepted (o : Option ℕ) (s : Coordinator) (t k j : ℕ) : Type 0 where
   pub none-applies : o ≡ none

@@ -25,7 +25,7 @@ use Rattle.coordinator.specs.Test.{ticketSound, listed, placeSound, mark
 use Rattle.coordinator.specs.Tables.{openIn}
 use Rattle.coordinator.specs.Parts.{tables, ticketsOnly, orderOnly, stepsOnly, placeIn, rowWrong, stepsSound}
 
--- ---- the opening order
+-- the opening order
 
 pub place-open : (left n i o : ℕ) → left < 2 ^ jobs → ltb i n ≡ true → holds left o ≡ placeIn left n i o
 unfolding placeIn
@@ -62,7 +62,7 @@ pub listed-more : (order : List ℕ) (i m : ℕ) → entry order i < jobs → m 
 unfolding listed opened
 listed-more order i m l p = or-shl 32 m (entry order i) l ∙ over-more _ _ _ p
 
--- ---- the steps at one database
+-- the steps at one database
 
 pub marks-are : (named asked released confirmed held : ℕ)
     → eqb (bitOr (bitOr (bitOr (less jobs asked named) (less jobs released asked)) (less jobs confirmed released)) (less jobs (bitAnd held named) confirmed)) 0
@@ -97,7 +97,7 @@ pub steps-at : (held : ℕ) (named asked released confirmed dependencies : List 
 unfolding stepsSound databaseSound
 steps-at held named asked released confirmed dependencies k = refl
 
--- ---- all of it
+-- all of it
 
 pub sound-is : (tickets : List ℕ) (held : ℕ) (order named asked released confirmed dependencies : List ℕ)
     → sound (tables tickets held order named asked released confirmed dependencies)

@@ -36,6 +36,7 @@ pub record Sound (s : Coordinator) : Type 0 where
   pub released-asked : (j k : ℕ) → released s j k ≡ true → asked s j k ≡ true
   pub asked-named : (j k : ℕ) → asked s j k ≡ true → names s j k ≡ true
   pub ordered : Ordered s
+  -- (beyond the last slot the rows of one database run into those of the next)
   pub joins : (k a b : ℕ) → b < jobs → dep s k a b ≡ true → Joins s k a b
   -- a released and unconfirmed step has a dependency to each other open job that names its database and whose step there isn't released
   pub under-way : (k a b : ℕ) → released s a k ≡ true → confirmed s a k ≡ false → ¬ (b ≡ a) → isOpen s b ≡ true → names s b k ≡ true → released s b k ≡ false

@@ -1,6 +1,6 @@
 -- What the tables of a state mean. Slots are below `jobs`, databases below `databases`. Assumes nothing: these are definitions.
 use Prim.Native.Nat.{ℕ, _+_, _*_}
-use mathlib.Core.Bool.{Bool, not, _&&_}
+use mathlib.Core.Bool.{Bool}
 use mathlib.Core.List.{List}
 use lib.ListN.{getD}
 use Rattle.mask.specs.Member.{holds, size}
@@ -11,7 +11,7 @@ use Rattle.coordinator.specs.Limits.{jobs, databases}
 abbrev pub entry : List ℕ → ℕ → ℕ
 entry l i = getD l i 0
 
--- database k is in the mask of the job in slot j; and the job's step there stands in the graph
+-- database k is in the mask of the job in slot j; and the job has a step there. These are two views, so that a step may leave the graph while the mask stays.
 unfoldable pub inMask : Coordinator → ℕ → ℕ → Bool
 inMask s j k = holds (entry (s .named) k) j
 
@@ -27,10 +27,6 @@ released s j k = holds (entry (s .released) k) j
 
 unfoldable pub confirmed : Coordinator → ℕ → ℕ → Bool
 confirmed s j k = holds (entry (s .confirmed) k) j
-
--- it stands in the graph and is not released
-unfoldable pub waits : Coordinator → ℕ → ℕ → Bool
-waits s j k = names s j k && not (released s j k)
 
 -- a slot is open where its mask is not 0
 unfoldable pub openSlots : Coordinator → ℕ

@@ -29,7 +29,7 @@ record Parts (s : Coordinator) : Type 0 where
   rows : (k : ℕ) → k < databases → (b : ℕ) → b < jobs → Row s k b
 
 module _ (s : Coordinator) (h : Shape s) where
-  -- ---- the test and its parts
+  -- the test and its parts
 
   held-within : (within jobs (s .held) (openSlots s) ≡ true) ↔ ((j : ℕ) → held s j ≡ true → isOpen s j ≡ true)
   unfolding held isOpen
@@ -60,7 +60,7 @@ module _ (s : Coordinator) (h : Shape s) where
       ∙ and-both (and-both (and-both (held-within .1 (p .held-open)) (tickets-iff s h .1 (p .tickets))) (order-iff s h .1 (p .order)))
       (every-of databases _ (λ k l. database-iff s h k .1 (p .marks k l, p .rows k l)))
 
-  -- ---- the parts and the clauses
+  -- the parts and the clauses
 
   names-mask : (j k : ℕ) → names s j k ≡ true → inMask s j k ≡ true
   unfolding names

@@ -26,7 +26,7 @@ use Rattle.coordinator.specs.Views.{entry, openSlots, isOpen, openCount, opened
 use Rattle.effects.proofs.Bounds.{entry-beyond, open-range, count-le}
 
 module _ (s : Coordinator) where
-  -- ---- what is listed
+  -- what is listed
 
   pub listed-at : (n i : ℕ) → i < n → holds (listed s n) (opened s i) ≡ true
   unfolding listed over
@@ -59,7 +59,7 @@ module _ (s : Coordinator) where
       let now = each n (le-refl (suc n)) in
       omega (arith, size-including jobs (listed s n) (opened s n) (now .0) (now .1), listed-size n (λ i l. each i (omega arith)))
 
-  -- ---- a place
+  -- a place
 
   at-open : (i : ℕ) → i < openCount s → placeSound s (openSlots s) i ≡ ltb (opened s i) jobs && holds (less jobs (openSlots s) (listed s i)) (opened s i)
   unfolding placeSound openCount
@@ -78,7 +78,7 @@ module _ (s : Coordinator) (h : Shape s) where
   abbrev Passes : Type 0
   Passes = every jobs (placeSound s (openSlots s)) ≡ true
 
-  -- ---- a test that passes
+  -- a test that passes
 
   below : Passes → (i : ℕ) → i < openCount s → opened s i < jobs
   below e i l =
@@ -130,7 +130,7 @@ module _ (s : Coordinator) (h : Shape s) where
     end = end-zero e;
   }
 
-  -- ---- an order that is as it should be
+  -- an order that is as it should be
 
   from : Ordered s → Passes
   from r = every-of jobs _ (λ i l. by i (ltb i (openCount s)) refl)

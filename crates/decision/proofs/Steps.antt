@@ -25,7 +25,7 @@ use Rattle.coordinator.specs.Views.{entry, inMask, names, asked, released, conf
 use Rattle.effects.proofs.Bounds.{into-small}
 use Rattle.decision.specs.Clause.{Marks, Row}
 
--- ---- who may go before slot b, and who has to
+-- who may go before slot b, and who has to
 
 partners-small : (named b : ℕ) → named < 2 ^ jobs → partners named b < 2 ^ jobs
 unfolding partners
@@ -69,7 +69,7 @@ module _ (s : Coordinator) (h : Shape s) (k : ℕ) where
   abbrev under : ℕ
   under = less jobs (entry (s .released) k) (entry (s .confirmed) k)
 
-  -- ---- the marks
+  -- the marks
 
   abbrev MarksPass : Type 0
   MarksPass = marksSound named (entry (s .asked) k) (entry (s .released) k) (entry (s .confirmed) k) (s .held) ≡ true
@@ -104,7 +104,7 @@ module _ (s : Coordinator) (h : Shape s) (k : ℕ) where
       let q : holds (s .held) j && holds named j ≡ true = sym (holds-and (s .held) named j) ∙ p in
       m .held-confirmed j (and-left (holds (s .held) j) (holds named j) q) (and-right (holds (s .held) j) (holds named j) q)))
 
-  -- ---- a row of dependencies
+  -- a row of dependencies
 
   module _ (b : ℕ) where
     abbrev RowPasses : Type 0
@@ -157,7 +157,7 @@ module _ (s : Coordinator) (h : Shape s) (k : ℕ) where
         (and-left (holds (entry (s .released) k) a) _ u)
         (not-true _ (and-right (holds (entry (s .released) k) a) _ u))))
 
-  -- ---- all of it
+  -- all of it
 
   rows-are : rowsSound (drop (k * jobs) (s .dependencies)) named waiting under ≡ every jobs (λ b. rowSound named waiting under b (entry (drop (k * jobs) (s .dependencies)) b))
   unfolding rowsSound

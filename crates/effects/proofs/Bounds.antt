@@ -17,7 +17,7 @@ use Rattle.coordinator.specs.Limits.{jobs, databases}
 use Rattle.coordinator.specs.Shape.{Sized, Shape}
 use Rattle.coordinator.specs.Views.{entry, inMask, names, asked, released, confirmed, openSlots, isOpen, openCount, held, into, dep}
 
--- ---- n sets of numbers below w
+-- n sets of numbers below w
 
 module _ {n w : ℕ} {l : List ℕ} (h : Sized n w l) where
   pub entry-beyond : (i : ℕ) → n ≤ i → entry l i ≡ 0
@@ -32,7 +32,7 @@ module _ {n w : ℕ} {l : List ℕ} (h : Sized n w l) where
     ],
   )
 
--- ---- the views of a state
+-- the views of a state
 
 module _ (s : Coordinator) (h : Shape s) where
   pub in-mask-range : (j k : ℕ) → inMask s j k ≡ true → (j < jobs) × (k < databases)
@@ -69,7 +69,7 @@ module _ (s : Coordinator) (h : Shape s) where
       let r = in-range (h .dependencies) a (k * jobs + b) e in
       (r .0, omega (arith, r .1))
 
-  -- ---- the open slots
+  -- the open slots
 
   pub slots-small : openSlots s < 2 ^ jobs
   unfolding openSlots

@@ -30,7 +30,7 @@ use Rattle.effects.proofs.Sized.{sized-set, stored}
 use Rattle.effects.proofs.Stores.{stores-at, stores-off, stores-sized}
 use Rattle.effects.proofs.Rows.{led-into, led-into-sized}
 
--- ---- slot n joins the set at each database of the mask
+-- slot n joins the set at each database of the mask
 
 module _ (l : List ℕ) (h : Sized databases jobs l) (n mask : ℕ) where
   abbrev joinedBy : List ℕ

@@ -24,7 +24,7 @@ use Rattle.coordinator.specs.Open.{freeSlot}
 use Rattle.effects.proofs.Bounds.{slots-small, open-range}
 
 module _ (s : Coordinator) where
-  -- ---- the slot of the job that holds ticket t
+  -- the slot of the job that holds ticket t
 
   holders-are : (t j : ℕ) → j < jobs → holds (holders s t) j ≡ eqb (ticket s j) t && isOpen s j
   unfolding holders sharers isOpen
@@ -41,7 +41,7 @@ module _ (s : Coordinator) where
       let p = sym (holders-are t (holder s t) (l .within)) ∙ lowest-holds l in
       (l .within, and-right (eqb (ticket s (holder s t)) t) _ p, eqb-true _ _ (and-left (eqb (ticket s (holder s t)) t) _ p))
 
-  -- ---- the first place of slot j in the opening order
+  -- the first place of slot j in the opening order
 
   pub place-is : (i j : ℕ) → i < jobs → opened s i ≡ j → (place s j ≤ i) × (opened s (place s j) ≡ j)
   unfolding place
@@ -60,7 +60,7 @@ module _ (s : Coordinator) (h : Shape s) where
       let (l, p, q) = holder-is s t (holders-some t j o e) in
       sound .tickets-differ (holder s t) j p o (q ∙ sym e)
 
-  -- ---- a free slot
+  -- a free slot
 
   pub free-slot : openCount s < jobs → (freeSlot s < jobs) × (isOpen s (freeSlot s) ≡ false)
   unfolding freeSlot openCount isOpen

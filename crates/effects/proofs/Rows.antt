@@ -19,7 +19,7 @@ use Rattle.coordinator.specs.Change.{lead, leadTo}
 use Rattle.effects.proofs.Stores.{stores, stores-at, stores-off, stores-else, stores-sized}
 
 module _ (d : List ℕ) (h : Sized steps jobs d) where
-  -- ---- at database k, j goes before each of the set m
+  -- at database k, j goes before each of the set m
 
   pub lead-to-sized : (k j m : ℕ) → j < jobs → Sized steps jobs (leadTo k j m d)
   unfolding leadTo overMembers lead
@@ -52,7 +52,7 @@ module _ (d : List ℕ) (h : Sized steps jobs d) where
       by true e false y = rw (eqb-true u k e, and-false (eqb a j)) (ap (λ (x : ℕ). holds x a) (stores-off f g (holds m) apart jobs b d y))
       by false e z y = ap (λ (x : ℕ). holds x a) (stores-else f g (holds m) jobs (u * jobs + b) d (λ i q p. let ne = eqb-false u k e in omega arith))
 
-  -- ---- at each database k that passes the test, the set R k goes before slot n
+  -- at each database k that passes the test, the set R k goes before slot n
 
   module _ (R : ℕ → ℕ) (p : ℕ → Bool) (n : ℕ) (slot : n < jobs) where
     abbrev pub ledInto : List ℕ

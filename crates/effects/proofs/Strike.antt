@@ -23,7 +23,7 @@ use Rattle.effects.proofs.Bounds.{entry-beyond}
 use Rattle.effects.proofs.Sized.{sized-as}
 use Rattle.effects.proofs.Stores.{stores-at, stores-else, stores-sized}
 
--- ---- slot j leaves every set
+-- slot j leaves every set
 
 module _ {n w : ℕ} {l : List ℕ} (h : Sized n w l) (j : ℕ) where
   pub strike-sized : Sized n w (strike n j l)
@@ -41,7 +41,7 @@ module _ {n w : ℕ} {l : List ℕ} (h : Sized n w l) (j : ℕ) where
         (ap (λ (x : ℕ). holds x a) (entry-beyond strike-sized u (omega arith)) ∙ holds-none a)
   ]
 
--- ---- nobody goes before it
+-- nobody goes before it
 
 module _ {d : List ℕ} (h : Sized steps jobs d) (j : ℕ) (slot : j < jobs) where
   pub unled-sized : Sized steps jobs (unled j d)
@@ -68,7 +68,7 @@ module _ {d : List ℕ} (h : Sized steps jobs d) (j : ℕ) (slot : j < jobs) whe
       by true e (no l) = ap (λ (x : ℕ). holds x a) (entry-beyond unled-sized (u * jobs + b) (omega arith)) ∙ holds-none a
       by false e l = ap (λ (x : ℕ). holds x a) (stores-else f g (λ k. true) databases (u * jobs + b) d (λ i q w. let ne = eqb-false b j e in omega arith))
 
--- ---- the places after p move up
+-- the places after p move up
 
 module _ {w : ℕ} {l : List ℕ} (h : Sized jobs w l) (p : ℕ) where
   pub moved-up : (i : ℕ) → entry (movedUp p l) i ≡ entry l (i + tally (not (ltb i p)))

@@ -18,7 +18,7 @@ use Rattle.coordinator.specs.Release.{mayGo, mayGoAt, mayClose, mayCloseNow, fi
 use Rattle.effects.proofs.Bounds.{into-small}
 
 module _ (s : Coordinator) (h : Shape s) where
-  -- ---- a step may go where whatever leads into it is confirmed
+  -- a step may go where whatever leads into it is confirmed
 
   pub may-go-iff : (j k : ℕ) → (mayGo s j k ≡ true) ↔ ((a : ℕ) → dep s k a j ≡ true → confirmed s a k ≡ true)
   unfolding mayGo dep confirmed
@@ -28,7 +28,7 @@ module _ (s : Coordinator) (h : Shape s) where
   unfolding mayGo dep confirmed
   may-not-go j k e = within-not jobs (into s k j) (entry (s .confirmed) k) (into-small s h k j) (h .confirmed .fits k) e
 
-  -- ---- a job may close where nothing leads into it
+  -- a job may close where nothing leads into it
 
   none-into : (j k : ℕ) → (into s k j ≡ 0) ↔ ((a : ℕ) → dep s k a j ≡ false)
   unfolding dep
@@ -48,7 +48,7 @@ module _ (s : Coordinator) (h : Shape s) where
       let (a, m, q) = some-member jobs (into s k j) (into-small s h k j) (eqb-false (into s k j) 0 p) in
       (k, l, (a, q))
 
--- ---- who may go now, and who goes: one of them
+-- who may go now, and who goes: one of them
 
 module _ (s : Coordinator) where
   pub may-go-at : (k j : ℕ) → j < jobs → holds (mayGoAt s k) j ≡ asked s j k && not (released s j k) && mayGo s j k

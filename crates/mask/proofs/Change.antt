@@ -73,7 +73,7 @@ excluding-lt n m k h = lt-of-le-of-lt (excluding-le m k) h
 pub less-lt : (n a b : ℕ) → a < 2 ^ n → less n a b < 2 ^ n
 less-lt n a b h = lt-of-le-of-lt (and-le-l a (2 ^ n - 1 - b)) h
 
--- ---- beyond the width there is nothing to take out, and nothing is put in
+-- beyond the width there is nothing to take out, and nothing is put in
 
 pub excluding-beyond : (n m k : ℕ) → m < 2 ^ n → n ≤ k → m ≡ excluding m k
 unfolding excluding

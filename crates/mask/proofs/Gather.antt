@@ -57,7 +57,7 @@ module _ (d : ℕ → ℕ) (two : (j : ℕ) → d j < 2) where
       by (inl e) ih = rw e (omega (arith, high-zero n (gather n d) n (gather-lt n) (le-refl n), leaf-same (d n) n (two n)))
       by (inr h) ih = omega (arith, ih h, leaf-other (d n) n j (two n) (λ q. omega arith))
 
--- ---- a set gathered by a test
+-- a set gathered by a test
 
 tally-two : (b : Bool) → tally b < 2
 tally-two b = omega (arith, tally-le b)

@@ -15,7 +15,7 @@ use Rattle.mask.specs.Member.{digit, holds, including, excluding, joined
 use Rattle.mask.proofs.Digits.{digit-lt, digit-none, digit-or, digit-and, digit-not, digit-pow-same, digit-pow-other, high-zero}
 use Rattle.mask.proofs.Change.{including-same, including-other, excluding-same, excluding-other, joined-below, joined-beyond, less-lt, member-le}
 
--- ---- members and digits
+-- members and digits
 
 pub holds-of : (m k : ℕ) → digit m k ≡ 1 → holds m k ≡ true
 holds-of m k e = eq-eqb (digit m k) 1 e
@@ -37,7 +37,7 @@ tally-holds m k = by (holds m k) refl
     by true e = sym (digit-on m k e)
     by false e = sym (digit-off m k e)
 
--- ---- no member beyond the width
+-- no member beyond the width
 
 pub holds-beyond : (n m j : ℕ) → m < 2 ^ n → n ≤ j → holds m j ≡ false
 holds-beyond n m j h l = holds-not m j (high-zero n m j h l)
@@ -52,7 +52,7 @@ holds-below n m j h e = elim (decLt j n) [
 pub holds-pos : (m k : ℕ) → holds m k ≡ true → 0 < m
 holds-pos m k e = lt-of-lt-of-le (pow-pos k) (member-le m k (digit-on m k e))
 
--- ---- the empty set, one member, a member more, a member less
+-- the empty set, one member, a member more, a member less
 
 pub holds-none : (j : ℕ) → holds 0 j ≡ false
 holds-none j = holds-not 0 j (digit-none j)
@@ -85,7 +85,7 @@ holds-excluding m k j = by (eqb j k) refl
     by true e = rw (eqb-true j k e) (holds-not (excluding m k) k (excluding-same m k))
     by false e = rw (excluding-other m k j (eqb-false j k e))
 
--- ---- two sets
+-- two sets
 
 -- what is said of two digits holds of any, once it holds of 0 and 1
 digits-of : (P : ℕ → ℕ → Type 0) → P 0 0 → P 0 1 → P 1 0 → P 1 1 → (p q : ℕ) → p < 2 → q < 2 → P p q

@@ -33,7 +33,7 @@ trailing-lowest (suc n) m p h =
         lower (suc j) h all = digit-suc m j ∙ all j (omega arith)
     go (suc d) e ih = record { within = omega arith; on = digit-first m ∙ omega arith; below = λ j h. absurd (omega arith) }
 
--- ---- the same, said of members
+-- the same, said of members
 
 pub lowest-holds : {n m w : ℕ} → Lowest n m w → holds m w ≡ true
 lowest-holds {n} {m} {w} l = holds-of m w (l .on)
@@ -74,7 +74,7 @@ lowest-none n = trailing-of-zero n
 pub lowest-at-most : (n m : ℕ) → lowest n m ≤ n
 lowest-at-most n m = trailing-le n m
 
--- ---- the lowest that is missing
+-- the lowest that is missing
 
 pub free-of : (n m : ℕ) → m < 2 ^ n - 1 → Free n m (lowest n (2 ^ n - 1 - m))
 free-of n m h =

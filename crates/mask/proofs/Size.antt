@@ -20,7 +20,7 @@ use Rattle.mask.proofs.Holds.{tally-holds, holds-none, holds-all, holds
 use Rattle.mask.proofs.Equal.{same-members}
 use Rattle.mask.proofs.Lowest.{free-of}
 
--- ---- the code's count of ones
+-- the code's count of ones
 
 ones-zero : ones 0 ≡ 0
 unfolding ones
@@ -31,7 +31,7 @@ unfolding onesIn
 ones-in zero m h = ap ones (lt-one h) ∙ ones-zero
 ones-in (suc n) m h = let p : 2 ^ suc n ≡ 2 ^ n * 2 = pow-suc 2 n in ones-step m ∙ ap (λ (x : ℕ). m % 2 + x) (ones-in n (m / 2) (omega arith))
 
--- ---- the sum over the members
+-- the sum over the members
 
 size-digits : (n m : ℕ) → size n m ≡ sum n (digit m)
 unfolding onesIn sum
@@ -50,7 +50,7 @@ pub size-mono : (n a b : ℕ) → ((j : ℕ) → holds a j ≡ true → holds b 
 size-mono n a b h =
     omega (arith, size-sum n a, size-sum n b, sum-mono n (λ k. tally (holds a k)) (λ k. tally (holds b k)) (λ k l. tally-mono (holds a k) (holds b k) (h k)))
 
--- ---- one member more, one less
+-- one member more, one less
 
 pub size-including : (n m k : ℕ) → k < n → holds m k ≡ false → size n (including m k) ≡ size n m + 1
 size-including n m k l e =
@@ -80,7 +80,7 @@ size-within n a b h le j l e = by (holds a j) refl
         absurd
         (omega (arith, size-including n a j l p, size-mono n (including a j) b (λ k q. in-b k (or-cases (eqb k j) (holds a k) (sym (holds-including a j k) ∙ q)))))
 
--- ---- none, and all
+-- none, and all
 
 pub size-none : (n : ℕ) → size n 0 ≡ 0
 size-none n = size-sum n 0 ∙ sum-zero n _ (λ k l. ap tally (holds-none k))

@@ -56,7 +56,7 @@ module _ {S : Type 0} (f : ℕ → S → S) where
   unfolding overMembers
   overMembers-none n t = clear-below 0 n t (λ j l. digit-none j)
 
-  -- ---- for a loop's invariant: m is left of m₀, and to walk it from t gives what walking m₀ from s gives
+  -- for a loop's invariant: m is left of m₀, and to walk it from t gives what walking m₀ from s gives
 
   pub record Left (n m₀ : ℕ) (s : S) (m : ℕ) (t : S) : Type 0 where
     pub among : (j : ℕ) → digit m j ≡ 1 → digit m₀ j ≡ 1
@@ -73,7 +73,7 @@ module _ {S : Type 0} (f : ℕ → S → S) where
         back : (j : ℕ) → digit (excluding m w) j ≡ 1 → digit m j ≡ 1
         back j e = sym (excluding-other m w j (λ q. let z : digit (excluding m w) j ≡ 0 = rw q (excluding-same m w) in omega arith)) ∙ e
 
-    -- ---- the turn of `while m != 0 { let w = lowest(m); t = f(w, t); m = rest(m); }`, where the walked set has n digits
+    -- the turn of `while m != 0 { let w = lowest(m); t = f(w, t); m = rest(m); }`, where the walked set has n digits
 
     module _ (m w : ℕ) (t : S) (b : m₀ < 2 ^ n) (ne : ¬ (m ≡ 0)) (h : Left n m₀ s m t) (e : w ≡ lowest n m) where
       pub left-lowest : Lowest n m w

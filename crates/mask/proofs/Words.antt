@@ -55,7 +55,7 @@ misses-shl w m k l z = by (holds m k) refl
 pub and-not-shl : (w m k : ℕ) → m < 2 ^ w → k < w → bitAnd m (2 ^ w - 1 - 1 * 2 ^ k % 2 ^ w) ≡ excluding m k
 and-not-shl w m k h l = rw (one-shl w k l) (and-not w m (2 ^ k) h (pow-lt l) ∙ sub-pow m k)
 
--- ---- the set without its lowest member
+-- the set without its lowest member
 
 clear-is : (m w : ℕ) → digit m w ≡ 1 → excluding m w ≡ m - 2 ^ w
 unfolding excluding

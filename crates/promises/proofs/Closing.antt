@@ -139,7 +139,7 @@ module _ (m : Moment) (I : Invariant m) (j : ℕ) (o : isOpen (m .state) j ≡ t
       E : Ended (closeAskedTold T (J j)) (closing s j)
       E = cascade (closeAskedTold T (J j)) jobs (closeOne (at-first s) j) (first-closed e) (omega (arith, first-closed e .room))
 
--- ---- the call, by what the table and the test say
+-- the call, by what the table and the test say
 
 module _ (s : Coordinator) (t : ℕ) where
   pub refusal-numbered : (n : ℕ) → closeRefusal s t ≡ some n → ¬ (n ≡ 0)

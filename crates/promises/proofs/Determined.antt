@@ -3,23 +3,37 @@ use Prim.Native.Nat.{ℕ}
 use mathlib.Core.List.{List}
 use mathlib.Core.Path.{_≡_, sym, ap, _∙_}
 use Rattle.numbers.specs.declared.maker.Handed.{Handed}
-use Rattle.numbers.specs.Ticket.{after}
-use Rattle.promises.specs.Determined.{Determines, Equation, Taken, TakeMeets, HandOutMeets, Determined}
+use Rattle.numbers.specs.Ticket.{after, ticketFrom}
+use Rattle.promises.specs.Determined.{Determines, Determined}
 
-equation : Equation
-equation A d x y p q = p ∙ sym q
+equation : {A : Type 0} (d : A) → Determines (λ (r : A). r ≡ d)
+equation d x y p q = p ∙ sym q
 
-take : (held : List ℕ) (next : ℕ) → Determines (TakeMeets held next)
-take held next x y (p, q) (r, s) =
-    let t : x .ticket .0 ≡ y .ticket .0 = p ∙ sym r in
-    let n : x .maker .next ≡ y .maker .next = q ∙ ap after t ∙ sym s in
-    λ i. record { ticket = record { 0 = t i }; maker = record { next = n i } }
-
-hand-out : (held : List ℕ) (next : ℕ) → Determines (HandOutMeets held next)
+hand-out : (held : List ℕ) (next : ℕ) → Determines (λ (r : Handed). (r .ticket .0 ≡ ticketFrom held next) × (r .maker .next ≡ after (r .ticket .0)))
 hand-out held next x y (p, q) (r, s) =
     let t : x .ticket .0 ≡ y .ticket .0 = p ∙ sym r in
     let n : x .maker .next ≡ y .maker .next = q ∙ ap after t ∙ sym s in
     λ i. record { ticket = record { 0 = t i }; maker = record { next = n i } }
 
 pub determined : Determined
-determined = record { equation = equation; take = take; hand-out = hand-out }
+determined = record {
+  open-job = λ s mask. equation _;
+  ask = λ s t k. equation _;
+  confirm = λ s t k. equation _;
+  close = λ s t. equation _;
+  start = λ n. equation _;
+  is-sound = λ s. equation _;
+  most-moves = λ s. equation _;
+  search = λ named dependencies n. equation _;
+  absent = λ held t. equation _;
+  next-number = λ t. equation _;
+  free-from = λ held from. equation _;
+  hand-out = hand-out;
+  member = λ m k. equation _;
+  with-member = λ n m k. equation _;
+  without-member = λ m k. equation _;
+  lowest-member = λ n m. equation _;
+  rest-of = λ n m. equation _;
+  size-of = λ n m. equation _;
+  less-of = λ n a b. equation _;
+}

@@ -108,7 +108,7 @@ module _ (m : Moment) (I : Invariant m) (mask : ℕ) (fits : mask < 2 ^ 16) (som
     sound = C .1 .sound;
   }
 
--- ---- the call, by what the table says
+-- the call, by what the table says
 
 module _ (s : Coordinator) (mask : ℕ) where
   pub refusal-numbered : (n : ℕ) → openRefusal s mask ≡ some n → ¬ (n ≡ 0)

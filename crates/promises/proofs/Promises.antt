@@ -24,6 +24,8 @@ use Rattle.promises.proofs.History.{invariant}
 use Rattle.promises.proofs.Cycles.{no-cycle-of-slots}
 use Rattle.promises.proofs.Answers.{refusals}
 use Rattle.promises.proofs.Searches.{opened}
+use Rattle.promises.proofs.Sheet.{job-sheet}
+use Rattle.promises.proofs.Determined.{determined}
 use Rattle.promises.proofs.Others.{holds-others}
 
 mask-fits : (c : Call) → Fits c → MaskFits c
@@ -63,4 +65,4 @@ after-all n h calls fit =
     }
 
 pub promises : Promises
-promises = record { refusals = refusals; soundness = soundness; calls = calls; histories = after-all }
+promises = record { refusals = refusals; soundness = soundness; calls = calls; job-sheet = job-sheet; determined = determined; histories = after-all }

@@ -23,6 +23,8 @@ use Rattle.coordinator.specs.Shape.{Shape}
 use Rattle.coordinator.specs.Sound.{Sound}
 use Rattle.coordinator.specs.Refusal.{openRefusal}
 use Rattle.coordinator.specs.Bound.{mostMoves}
+use Rattle.numbers.specs.Ticket.{after}
+use Rattle.coordinator.specs.Change.{withDependencies, taken}
 use Rattle.coordinator.specs.Open.{freeSlot, ticketFor, entered, graph, searched, withFound, added, accepted}
 use Rattle.coordinator.specs.Answer.{openValues}
 use Rattle.coordinator.specs.Call.{openJob, Played, play}
@@ -98,9 +100,14 @@ module _ (s : Coordinator) (mask : ℕ) (S : Shape s) (X : Sound s) (fits : mask
       let C = opened-sound s S X mask fits (open-accepted s S mask e .some) (open-accepted s S mask e .room) .0 in
       subst (λ (x : ℕ). sought .moves ≤ x) (foreseen s u n mask (free-names s S X n (free-slot s S (open-accepted s S mask e .room) .1)) (C .shows .names)) moves-three
 
+  next-candidate : withFound u n (sought .found) .maker .next ≡ after (ticketFor s)
+  unfolding withFound withDependencies entered taken
+  next-candidate = refl
+
   pub opened : Opened s mask
   opened = record {
     ticket-first = subst (λ (r : Played). GivenOut s (r .values .ticket)) (sym played) (ticket-given s S X);
+    candidate = ap (λ (r : Played). r .state .maker .next) played ∙ next-candidate ∙ ap (λ (r : Played). after (r .values .ticket)) (sym played);
     found = finds;
     added = λ d v w h. subst (λ (r : Played). (dep (r .state) d v w ≡ true) ↔ ((dep u d v w ≡ true) ⊎ ((w ≡ n) × WalkEnd (graph u n) v d))) (sym played) (adds d v w h);
     how-many = ap (λ (r : Played). r .values .added) played ∙ many;

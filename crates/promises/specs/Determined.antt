@@ -1,33 +1,51 @@
--- Any two results that meet a public function's contract are equal: the contracts of the coordinator and of the floors below it, as their sources have them.
--- Where a contract is an equation with a definition, as all but two are, `Equation` says it of every state and input at once.
+-- Any two results that meet a contract are equal, for every public function of the coordinator and of the floors below it, as their sources have it.
 -- Assumes nothing: these are definitions.
 use Prim.Native.Nat.{ℕ}
+use mathlib.Core.Bool.{Bool}
 use mathlib.Core.List.{List}
 use mathlib.Core.Path.{_≡_}
-use Rattle.numbers.specs.declared.Ticket.{Ticket}
-use Rattle.numbers.specs.declared.NumberMaker.{NumberMaker}
+use Rattle.mask.specs.Member.{holds, joined, excluding, less, lowest, size}
 use Rattle.numbers.specs.declared.maker.Handed.{Handed}
-use Rattle.numbers.specs.Ticket.{after, ticketFrom}
+use Rattle.numbers.specs.Ticket.{absentIn, after, ticketFrom}
+use Rattle.search.specs.declared.Sought.{Sought}
+use Rattle.search.specs.Search.{sought}
+use Rattle.coordinator.specs.declared.Coordinator.{Coordinator}
+use Rattle.coordinator.specs.declared.answers.AfterOpen.{AfterOpen}
+use Rattle.coordinator.specs.declared.answers.AfterAsk.{AfterAsk}
+use Rattle.coordinator.specs.declared.answers.AfterConfirm.{AfterConfirm}
+use Rattle.coordinator.specs.declared.answers.AfterClose.{AfterClose}
+use Rattle.coordinator.specs.Fresh.{fresh}
+use Rattle.coordinator.specs.Test.{sound}
+use Rattle.coordinator.specs.Bound.{mostMoves}
+use Rattle.coordinator.specs.Open.{afterOpen}
+use Rattle.coordinator.specs.Ask.{afterAsk}
+use Rattle.coordinator.specs.Confirm.{afterConfirm}
+use Rattle.coordinator.specs.Close.{afterClose}
 
 abbrev pub Determines : {A : Type 0} → (A → Type 0) → Type 0
 Determines {A} P = (x y : A) → P x → P y → x ≡ y
 
--- r ≡ d: fresh, plain, is_sound, most_moves, open, ask, confirm, close; search; absent, after, free_from; the functions of mask
-abbrev pub Equation : Type 1
-Equation = (A : Type 0) (d : A) → Determines (λ (r : A). r ≡ d)
-
--- the ticket that `take` returns and the number maker that it leaves
-pub record Taken : Type 0 where
-  pub ticket : Ticket
-  pub maker : NumberMaker
-
-abbrev pub TakeMeets : List ℕ → ℕ → Taken → Type 0
-TakeMeets held next r = (r .ticket .0 ≡ ticketFrom held next) × (r .maker .next ≡ after (r .ticket .0))
-
-abbrev pub HandOutMeets : List ℕ → ℕ → Handed → Type 0
-HandOutMeets held next r = (r .ticket .0 ≡ ticketFrom held next) × (r .maker .next ≡ after (r .ticket .0))
-
-pub record Determined : Type 1 where
-  pub equation : Equation
-  pub take : (held : List ℕ) (next : ℕ) → Determines (TakeMeets held next)
-  pub hand-out : (held : List ℕ) (next : ℕ) → Determines (HandOutMeets held next)
+pub record Determined : Type 0 where
+  -- the coordinator
+  pub open-job : (s : Coordinator) (mask : ℕ) → Determines (λ (r : AfterOpen). r ≡ afterOpen s mask)
+  pub ask : (s : Coordinator) (t k : ℕ) → Determines (λ (r : AfterAsk). r ≡ afterAsk s t k)
+  pub confirm : (s : Coordinator) (t k : ℕ) → Determines (λ (r : AfterConfirm). r ≡ afterConfirm s t k)
+  pub close : (s : Coordinator) (t : ℕ) → Determines (λ (r : AfterClose). r ≡ afterClose s t)
+  pub start : (n : ℕ) → Determines (λ (r : Coordinator). r ≡ fresh n)
+  pub is-sound : (s : Coordinator) → Determines (λ (r : Bool). r ≡ sound s)
+  pub most-moves : (s : Coordinator) → Determines (λ (r : ℕ). r ≡ mostMoves s)
+  -- the opening search
+  pub search : (named dependencies : List ℕ) (n : ℕ) → Determines (λ (r : Sought). r ≡ sought named dependencies n)
+  -- the number maker. `take` gives the ticket and leaves the number maker behind the reference; `hand_out` gives both back.
+  pub absent : (held : List ℕ) (t : ℕ) → Determines (λ (r : Bool). r ≡ absentIn held t)
+  pub next-number : (t : ℕ) → Determines (λ (r : ℕ). r ≡ after t)
+  pub free-from : (held : List ℕ) (from : ℕ) → Determines (λ (r : ℕ). r ≡ ticketFrom held from)
+  pub hand-out : (held : List ℕ) (next : ℕ) → Determines (λ (r : Handed). (r .ticket .0 ≡ ticketFrom held next) × (r .maker .next ≡ after (r .ticket .0)))
+  -- sets of n slots or databases
+  pub member : (m k : ℕ) → Determines (λ (r : Bool). r ≡ holds m k)
+  pub with-member : (n m k : ℕ) → Determines (λ (r : ℕ). r ≡ joined n m k)
+  pub without-member : (m k : ℕ) → Determines (λ (r : ℕ). r ≡ excluding m k)
+  pub lowest-member : (n m : ℕ) → Determines (λ (r : ℕ). r ≡ lowest n m)
+  pub rest-of : (n m : ℕ) → Determines (λ (r : ℕ). r ≡ excluding m (lowest n m))
+  pub size-of : (n m : ℕ) → Determines (λ (r : ℕ). r ≡ size n m)
+  pub less-of : (n a b : ℕ) → Determines (λ (r : ℕ). r ≡ less n a b)

@@ -9,6 +9,7 @@ use Rattle.walks.specs.Walk.{WalkEnd, named}
 use Rattle.walks.specs.Marks.{count}
 use Rattle.walks.specs.Rows.{rows}
 use Rattle.walks.specs.Machine.{machine}
+use Rattle.numbers.specs.Ticket.{after}
 use Rattle.coordinator.specs.declared.Coordinator.{Coordinator}
 use Rattle.coordinator.specs.declared.answers.CloseAnswer.{CloseAnswer}
 use Rattle.coordinator.specs.Limits.{jobs, databases}
@@ -34,6 +35,8 @@ pub record Refusals : Type 0 where
   pub changes-nothing : (s : Coordinator) (c : Call) (n : ℕ) → refusalOf s c ≡ some n → play s c ≡ record { values = refused n; state = s }
   -- where no row applies the call is accepted, and 0 stands for the number
   pub accepts : (s : Coordinator) (c : Call) → refusalOf s c ≡ none → play s c .values .refusal ≡ 0
+  -- a state that isn't sound is refused with 10, whatever the call
+  pub damaged : (s : Coordinator) (c : Call) → Shape s → ¬ Sound s → refusalOf s c ≡ some 10
   -- no refusal has the number 0
   pub numbered : (s : Coordinator) (c : Call) (n : ℕ) → refusalOf s c ≡ some n → ¬ (n ≡ 0)
 
@@ -58,7 +61,9 @@ module _ (s : Coordinator) (mask : ℕ) where
   after-search = play s (openJob mask) .state
 
   pub record Opened : Type 0 where
+    -- the ticket is the first number, from the candidate upwards, that no open job holds, and the candidate becomes the number after it
     pub ticket-first : GivenOut s (play s (openJob mask) .values .ticket)
+    pub candidate : after-search .maker .next ≡ after (play s (openJob mask) .values .ticket)
     -- the search finds a dependency exactly where a walk ends with it, and adds those
     pub found : (v u : ℕ) → (holds (entry (searched before-search new .found) u) v ≡ true) ↔ WalkEnd (graph before-search new) v u
     pub added : (u v w : ℕ) → w < jobs → (dep after-search u v w ≡ true) ↔ ((dep before-search u v w ≡ true) ⊎ ((w ≡ new) × WalkEnd (graph before-search new) v u))

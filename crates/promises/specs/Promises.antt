@@ -3,10 +3,11 @@
 use Prim.Native.Nat.{ℕ, _^_, _<_}
 use mathlib.Core.List.{List}
 use Rattle.coordinator.specs.Call.{Call}
-use Rattle.promises.specs.Told.{Told}
 use Rattle.promises.specs.Moment.{AllFit, begin, after}
 use Rattle.promises.specs.Promise.{NoRing, NoReturn, AllConfirmed, NoneOpen}
 use Rattle.promises.specs.Tables.{NoCycle}
+use Rattle.promises.specs.Sheet.{AllHold, sheet}
+use Rattle.promises.specs.Determined.{Determined}
 use Rattle.promises.specs.Everywhere.{Refusals, Soundness, Calls}
 
 -- after the calls from a fresh start at n
@@ -20,8 +21,11 @@ pub record AfterAll (n : ℕ) (calls : List Call) : Type 0 where
   -- no reachable state holds a cycle
   pub no-cycle : NoCycle (after (begin n) calls .state)
 
-pub record Promises : Type 0 where
+pub record Promises : Type 1 where
   pub refusals : Refusals
   pub soundness : Soundness
   pub calls : Calls
+  -- every P line of the job sheet; any two results that meet a contract are equal
+  pub job-sheet : AllHold sheet
+  pub determined : Determined
   pub histories : (n : ℕ) → n < 2 ^ 16 → (calls : List Call) → AllFit calls → AfterAll n calls

@@ -20,7 +20,7 @@ use Rattle.search.proofs.Here.{Here, marked, visitedSlot}
 pub seek-is : {a b c d : List ℕ} {m k : ℕ} → a ≡ b → c ≡ d → m ≡ k → seek a c m ≡ seek b d k
 seek-is p q r = rw (p, q, r)
 
--- ---- closing, forward and return moves
+-- closing, forward and return moves
 
 found-is : (reached found : List ℕ) (moves v u : ℕ) → v < 32 → seek reached (marked found u v) (moves + 1) ≡ markFound marks v u (seek reached found moves)
 unfolding markFound
@@ -34,7 +34,7 @@ back-is : (reached found : List ℕ) (moves : ℕ) → seek reached found (moves
 unfolding back
 back-is reached found moves = rw add-one
 
--- ---- one law for each way that the code can take at a slot
+-- one law for each way that the code can take at a slot
 
 module _ {named dependencies : List ℕ} {n v u w : ℕ} {reached found : List ℕ} {moves : ℕ} (at : Here named dependencies n v u w reached found moves) where
   abbrev here : Seek marks
@@ -73,7 +73,7 @@ module _ {named dependencies : List ℕ} {n v u w : ℕ} {reached found : List �
         ∙ ap (back marks) (q ∙ ap (run (graph named dependencies n) marks w u) (reached-is reached found moves w u (at .slot)))
         ∙ sym (opened ∙ choice-no (eqb w n) _ _ here (ne-eqb w n e) ∙ guard-yes _ _ here (rw (ne-eqb (digit (getD reached u 0) w) 1 f)))
 
--- ---- slots that the code does not look at: one that is no candidate, one that is reached, and the new job where that dependency is found
+-- slots that the code does not look at: one that is no candidate, one that is reached, and the new job where that dependency is found
 
 module _ (named dependencies : List ℕ) (n v u w : ℕ) (t : Seek marks) where
   pub slot-other : not (eqb w v) && holds (getD named u 0) w ≡ false → visitedSlot named dependencies n v u w t ≡ t

@@ -21,7 +21,7 @@ use Rattle.search.specs.Visit.{marks, seek, unmarked, Ready, visitedJob}
 use Rattle.search.proofs.Here.{Here, marked, visitedSlot}
 use Rattle.search.proofs.Moves.{reached-is}
 
--- ---- what any part of the search keeps
+-- what any part of the search keeps
 
 pub record Kept (s r : Seek marks) : Type 0 where
   pub ready : Ready r
@@ -59,7 +59,7 @@ module _ (named dependencies : List ℕ) (n : ℕ) where
   slot-next v u w s hv hu hw e h =
       choose-next G marks (unmarked (s .reached)) (run G marks) (run-goes G marks (unmarked (s .reached))) v 16 hv u hu (λ q. omega arith) e w hw s (enough s h) .0
 
--- ---- one move
+-- one move
 
 module _ {named dependencies : List ℕ} {n v u w : ℕ} {reached found : List ℕ} {moves : ℕ} (at : Here named dependencies n v u w reached found moves) where
   pub closing-fits : ¬ (digit (getD found u 0) v ≡ 1) → moves + 1 < 2 ^ 32

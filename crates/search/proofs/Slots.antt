@@ -36,7 +36,7 @@ module _ {named dependencies : List ℕ} {n v u m₀ : ℕ} {s t : Seek marks} {
   abbrev G : Graph
   G = graph named dependencies n
 
-  -- ---- a turn: w is the lowest of those left
+  -- a turn: w is the lowest of those left
 
   module _ (ne : ¬ (m ≡ 0)) {w : ℕ} (e : w ≡ lowest 32 m) where
     low : Lowest 32 m w
@@ -64,7 +64,7 @@ module _ {named dependencies : List ℕ} {n v u m₀ : ℕ} {s t : Seek marks} {
             (next-kept named dependencies n t _ (at .kept .ready) (slot-next named dependencies n v u w t (ask .1) (ask .2) (low .within) (ask .3) (at .kept .ready))));
       }
 
-  -- ---- the end: outside of the candidates nothing would have been done
+  -- the end: outside of the candidates nothing would have been done
 
   -- what the loop keeps: what was reached is reached, and what was found is found. So it could be taken off before
   pub record Grown (x : Seek marks) : Type 0 where

@@ -6,8 +6,8 @@ use calls::Table;
 use coordinator::Coordinator;
 use numbers::Ticket;
 
-// Lines 1 to 4 and 11 go on from each other.
-fn two_jobs() {
+// Lines 1 to 4 go on from each other, and line 11 from what they leave.
+fn two_jobs() -> Coordinator {
     say::line(1);
     let a = calls::open(Coordinator::plain(), 3);
     say::line(2);
@@ -15,9 +15,12 @@ fn two_jobs() {
     say::line(3);
     let c = calls::ask(calls::ask(b, 1, 0), 0, 0);
     say::line(4);
-    let d = calls::confirm(c, 0, 0);
+    calls::confirm(c, 0, 0)
+}
+
+fn both_finish(s: Coordinator) {
     say::line(11);
-    let e = calls::confirm(d, 1, 0);
+    let e = calls::confirm(s, 1, 0);
     let f = calls::confirm(calls::ask(e, 0, 1), 0, 1);
     let g = calls::confirm(calls::ask(f, 1, 1), 1, 1);
     let h = calls::close(calls::close(g, 1), 0);
@@ -80,12 +83,14 @@ fn round_and_round() {
 }
 
 fn main() {
-    two_jobs();
+    let left = two_jobs();
     one_database();
     three_jobs();
     after_an_ask();
     last_number();
     full_table();
     no_such_database();
+    both_finish(left);
     round_and_round();
+    say::text(b"\n");
 }

@@ -23,7 +23,7 @@ use Rattle.coordinator.specs.Confirm.{releasedOne, confirmedAt, afterConfirm}
 use Rattle.coordinator.specs.Close.{Closing, noTickets, closeOne, closeHeld, closing, closedAt, afterClose}
 
 module _ (s : Coordinator) where
-  -- ---- open
+  -- open
 
   pub open-refused : (mask n : ℕ) → openRefusal s mask ≡ some n → _≡_ {A = AfterOpen} (afterOpen s mask) (record { answer = OpenAnswer.Refused n; state = s })
   unfolding afterOpen
@@ -33,7 +33,7 @@ module _ (s : Coordinator) where
   unfolding afterOpen
   open-taken mask e = rw (afterOpen, e)
 
-  -- ---- ask
+  -- ask
 
   pub ask-refused : (t k n : ℕ) → askRefusal s t k ≡ some n → _≡_ {A = AfterAsk} (afterAsk s t k) (record { answer = AskAnswer.Refused n; state = s })
   unfolding afterAsk
@@ -52,7 +52,7 @@ module _ (s : Coordinator) where
   unfolding askedFor
   ask-waits j k e = rw (askedFor, e)
 
-  -- ---- confirm
+  -- confirm
 
   pub confirm-refused : (t k n : ℕ) → confirmRefusal s t k ≡ some n → _≡_ {A = AfterConfirm} (afterConfirm s t k) (record { answer = ConfirmAnswer.Refused n; state = s })
   unfolding afterConfirm
@@ -72,7 +72,7 @@ module _ (s : Coordinator) where
   unfolding confirmedAt
   confirm-one j k e = rw (confirmedAt, e)
 
-  -- ---- close
+  -- close
 
   pub close-refused : (t n : ℕ) → closeRefusal s t ≡ some n
       → _≡_ {A = AfterClose} (afterClose s t) (record { answer = CloseAnswer.Refused n; tickets = noTickets; state = s })
@@ -93,7 +93,7 @@ module _ (s : Coordinator) where
   unfolding closedAt
   close-waits j e = rw (closedAt, e)
 
--- ---- the cascade
+-- the cascade
 
 pub cascade-none : (left : ℕ) (c : Closing) → eqb (mayCloseNow (c .state)) 0 ≡ true → closeHeld (suc left) c ≡ c
 unfolding closeHeld

@@ -39,7 +39,7 @@ use Rattle.soundness.proofs.Open.{opened-sound}
 kept : {s : Coordinator} {v : View} → Changed s v → Kept s
 kept c = (c .shape, c .sound)
 
--- ---- open
+-- open
 
 pub open-kept : (s : Coordinator) → Kept s → (mask : ℕ) → mask < 2 ^ 16 → Kept (afterOpen s mask .state)
 unfolding accepted
@@ -51,7 +51,7 @@ open-kept s (h, S) mask small = by (openRefusal s mask) refl
         subst (λ (r : AfterOpen). Kept (r .state)) (sym (open-taken s mask e)) (kept (opened-sound s h S mask small (a .some) (a .room) .1))
     by (some n) e = subst (λ (r : AfterOpen). Kept (r .state)) (sym (open-refused s mask n e)) (h, S)
 
--- ---- ask
+-- ask
 
 -- a step that is asked for, and was not before
 asked-kept : (s : Coordinator) → Kept s → (j k : ℕ) → j < jobs → k < databases → names s j k ≡ true → asked s j k ≡ false → Kept (askedFor s j k .state)
@@ -76,7 +76,7 @@ ask-kept s K t k = by (askRefusal s t k) refl
         subst (λ (r : AfterAsk). Kept (r .state)) (sym (ask-taken s t k e)) (asked-kept s K (holder s t) k (a .holder-of .slot) (a .database) (a .named) (a .unasked))
     by (some n) e = subst (λ (r : AfterAsk). Kept (r .state)) (sym (ask-refused s t k n e)) K
 
--- ---- confirm
+-- confirm
 
 -- whichever of those that may go is released
 one-kept : (s : Coordinator) → Kept s → (k : ℕ) → k < databases → ¬ (mayGoAt s k ≡ 0) → Kept (releasedOne s (firstOf s (mayGoAt s k)) k .state)
@@ -106,7 +106,7 @@ confirm-kept s K t k = by (confirmRefusal s t k) refl
         subst (λ (r : AfterConfirm). Kept (r .state)) (sym (confirm-taken s t k e)) (confirmed-kept s K (holder s t) k (a .holder-of .slot) (a .database) (a .is-released))
     by (some n) e = subst (λ (r : AfterConfirm). Kept (r .state)) (sym (confirm-refused s t k n e)) K
 
--- ---- close
+-- close
 
 pub one-closed : (c : Closing) → Kept (c .state) → (j : ℕ) → isOpen (c .state) j ≡ true → Kept (closeOne c j .state)
 unfolding closeOne
@@ -155,7 +155,7 @@ close-kept s K t = by (closeRefusal s t) refl
         subst (λ (r : AfterClose). Kept (r .state)) (sym (close-taken s t e)) (closed-kept s K (holder s t) (a .holder-of .is-open) (a .all-confirmed))
     by (some n) e = subst (λ (r : AfterClose). Kept (r .state)) (sym (close-refused s t n e)) K
 
--- ---- every call
+-- every call
 
 pub play-sound : (s : Coordinator) (c : Call) → MaskFits c → Shape s → Sound s → Shape (play s c .state) × Sound (play s c .state)
 unfolding play

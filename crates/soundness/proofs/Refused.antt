@@ -14,7 +14,7 @@ use Rattle.coordinator.specs.Call.{Call, openJob, askStep, confirmStep, closeJo
 use Rattle.soundness.specs.Refused.{refusalOf, row, FirstApplies}
 use Rattle.soundness.proofs.Arms.{open-refused, ask-refused, confirm-refused, close-refused}
 
--- ---- the first row that applies
+-- the first row that applies
 
 first-below : (r : Row) (rows : List Row) (n : ℕ) → r .applies ≡ false → FirstApplies rows n → FirstApplies (r ∷ rows) n
 first-below r rows n e f = record {
@@ -53,7 +53,7 @@ none-applies (r ∷ rows) e i l = by (r .applies) refl e (none-applies rows) i l
     by true p q below k m = let z : _≡_ {A = ℕ} 0 1 = cc in absurd (omega arith)
     by false p q below k m = at p (below q) k m
 
--- ---- a refused call
+-- a refused call
 
 pub refused-play : (s : Coordinator) (c : Call) (n : ℕ) → refusalOf s c ≡ some n → _≡_ {A = Played} (play s c) (record { values = refused n; state = s })
 unfolding refusalOf play

@@ -7,7 +7,7 @@ use borrow.Author.Tests.{eqb-true, eqb-false, eq-eqb, ne-eqb, not-true}
 use lib.Dec.{eqb}
 use Rattle.loops.proofs.Tests.{both, and-left, and-right, and-false, or-cases, untrue}
 
--- ---- one more mark, of slot j at database k
+-- one more mark, of slot j at database k
 
 -- a mark after one more is made: where it holds, it is that one or was there before
 pub marked : (a j u k : ℕ) (p : Bool) → eqb a j && eqb u k || p ≡ true → ((a ≡ j) × (u ≡ k)) ⊎ (p ≡ true)
@@ -25,7 +25,7 @@ marked-so mark j k a u p was new e = ⊎-elim (λ (q : (a ≡ j) × (u ≡ k)). 
 pub unmarked : (isOpen : ℕ → Bool) (a j u k : ℕ) (p : Bool) → isOpen j ≡ true → isOpen a ≡ false → p ≡ false → eqb a j && eqb u k || p ≡ false
 unmarked isOpen a j u k p o f e = untrue _ (λ q. ⊎-elim (λ (r : (a ≡ j) × (u ≡ k)). both o (ap isOpen (sym (r .0)) ∙ f)) (λ r. both r e) (marked a j u k p q))
 
--- ---- slot j is gone
+-- slot j is gone
 
 pub other : (a j : ℕ) (p : Bool) → not (eqb a j) && p ≡ true → ¬ (a ≡ j) × (p ≡ true)
 other a j p e = (eqb-false a j (not-true (eqb a j) (and-left (not (eqb a j)) p e)), and-right (not (eqb a j)) p e)
@@ -42,7 +42,7 @@ none-other a j p e = rw e (and-false (not (eqb a j)))
 pub no-more : (a j : ℕ) (p : Bool) → a ≡ j → not (eqb a j) && p ≡ false
 no-more a j p e = rw (eq-eqb a j e)
 
--- ---- one more number, at slot j
+-- one more number, at slot j
 
 pub number-here : (x y a j : ℕ) → a ≡ j → _≡_ {A = ℕ} (elim (eqb a j) [ true ↦ x | false ↦ y ]) x
 number-here x y a j e = rw (eq-eqb a j e)

@@ -62,7 +62,7 @@ module _ (G : Graph) (K : Marks (G .jobs) (G .databases)) where
           both m (given-none {A = ℕ × ℕ} (may s u w) (u, w) (rw e (q .before w l)))
       at-most p q u w hw m (no h) (no k) (no l) = inr (omega arith, omega arith)
 
-  -- ---- a pair that may be chosen is a link to go, and where there is none every choice has been made
+  -- a pair that may be chosen is a link to go, and where there is none every choice has been made
 
   module _ (v t : ℕ) (R F : K .M) where
     pub record May (u w : ℕ) : Type 0 where

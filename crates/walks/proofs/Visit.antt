@@ -31,7 +31,7 @@ link-test : (G : Graph) (u v w : ℕ) → Link G u v w → opens G u v w ≡ tru
 link-test G u v w l = rw (ne-eqb w v (l .differ), l .enters, l .free)
 
 module _ (G : Graph) (K : Marks (G .jobs) (G .databases)) where
-  -- ---- the two moves
+  -- the two moves
 
   found-next : (C : Type 0) (v u : ℕ) (s : Seek K) → Good G K s → v < G .jobs → u < G .databases → K .has (s .found) v u ≡ false
       → (C → WalkEnd G v u) → Next G K C s (markFound K v u s)
@@ -131,7 +131,7 @@ module _ (G : Graph) (K : Marks (G .jobs) (G .databases)) where
         (λ q. let h = forward-next u w s ok turn l (eqb-false w (G .new) q) in (h .0, λ m. h .1)))
         (λ p. (stays G K _ s, λ l. both (link-test G u v w l) p))
 
-    -- ---- the two functions
+    -- the two functions
 
     pub across-next : (u : ℕ) → u < G .databases → ¬ (u ≡ t) → G .names v u ≡ true → (s : Seek K) → Ok G K (suc f) s
         → To v t (λ R F. (w : ℕ) → w < G .jobs → Link G u v w → Hit G K R F v u w) s (across G K go v u s)
