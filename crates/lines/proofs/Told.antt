@@ -20,7 +20,11 @@ use Rattle.coordinator.specs.Confirm.{afterConfirm}
 use Rattle.coordinator.specs.Close.{afterClose}
 use Rattle.coordinator.specs.Answer.{Values, openValues, askValues, confirmValues, closeValues}
 use Rattle.coordinator.specs.Call.{Call, openJob, askStep, confirmStep, closeJob, play}
+use Rattle.lines.specs.declared.values.Numbers.{Numbers}
 use Rattle.lines.specs.Answered.{told, answered, Answers}
+
+abbrev pub three : Numbers → List ℕ
+three n = n .refusal ∷ n .first ∷ n .second ∷ []
 
 pub three-put : (l : List ℕ) (a b c : ℕ) → length l ≡ 3 → set (set (set l 0 a) 1 b) 2 c ≡ a ∷ b ∷ c ∷ []
 three-put [] a b c h = absurd (omega arith)
@@ -30,43 +34,52 @@ three-put (x ∷ y ∷ z ∷ []) a b c h = refl
 three-put (x ∷ y ∷ z ∷ w ∷ l) a b c h = absurd (omega arith)
 
 -- the answer's numbers, with the values of document 01 that they are
-pub open-told : (s : Coordinator) (mask : ℕ) (r : AfterOpen) (a : OpenAnswer) (l : List ℕ) → r ≡ afterOpen s mask → r .answer ≡ a →
-    l ≡ openValues a .refusal ∷ openValues a .ticket ∷ openValues a .moves ∷ [] → Answers s (some (openJob mask)) l (r .state)
+pub open-told : (s : Coordinator) (mask : ℕ) (r : AfterOpen) (n : Numbers) (l : List ℕ) → r ≡ afterOpen s mask →
+    n ≡ record { refusal = openValues (r .answer) .refusal; first = openValues (r .answer) .ticket; second = openValues (r .answer) .moves } → l ≡ three n →
+    Answers s (some (openJob mask)) l (r .state)
 unfolding answered told play
-open-told s mask r a l e h w = record {
-  told = w ∙ ap (λ (x : OpenAnswer). openValues x .refusal ∷ openValues x .ticket ∷ openValues x .moves ∷ []) (sym h ∙ ap (λ (x : AfterOpen). x .answer) e);
+open-told s mask r n l e v w = record {
+  told = w ∙ ap three v ∙ ap (λ (x : AfterOpen). openValues (x .answer) .refusal ∷ openValues (x .answer) .ticket ∷ openValues (x .answer) .moves ∷ []) e;
   left = ap (λ (x : AfterOpen). x .state) e;
 }
 
-pub ask-told : (s : Coordinator) (t k : ℕ) (r : AfterAsk) (a : AskAnswer) (l : List ℕ) → r ≡ afterAsk s t k → r .answer ≡ a →
-    l ≡ askValues a .refusal ∷ askValues a .released ∷ 0 ∷ [] → Answers s (some (askStep t k)) l (r .state)
+pub ask-told : (s : Coordinator) (t k : ℕ) (r : AfterAsk) (n : Numbers) (l : List ℕ) → r ≡ afterAsk s t k →
+    n ≡ record { refusal = askValues (r .answer) .refusal; first = askValues (r .answer) .released; second = 0 } → l ≡ three n → Answers s (some (askStep t k)) l (r .state)
 unfolding answered told play
-ask-told s t k r a l e h w = record {
-  told = w ∙ ap (λ (x : AskAnswer). askValues x .refusal ∷ askValues x .released ∷ 0 ∷ []) (sym h ∙ ap (λ (x : AfterAsk). x .answer) e);
+ask-told s t k r n l e v w = record {
+  told = w ∙ ap three v ∙ ap (λ (x : AfterAsk). askValues (x .answer) .refusal ∷ askValues (x .answer) .released ∷ 0 ∷ []) e;
   left = ap (λ (x : AfterAsk). x .state) e;
 }
 
-pub confirm-told : (s : Coordinator) (t k : ℕ) (r : AfterConfirm) (a : ConfirmAnswer) (l : List ℕ) → r ≡ afterConfirm s t k → r .answer ≡ a →
-    l ≡ confirmValues a .refusal ∷ confirmValues a .released ∷ confirmValues a .ticket ∷ [] → Answers s (some (confirmStep t k)) l (r .state)
+pub confirm-told : (s : Coordinator) (t k : ℕ) (r : AfterConfirm) (n : Numbers) (l : List ℕ) → r ≡ afterConfirm s t k →
+    n ≡ record { refusal = confirmValues (r .answer) .refusal; first = confirmValues (r .answer) .released; second = confirmValues (r .answer) .ticket } → l ≡ three n →
+    Answers s (some (confirmStep t k)) l (r .state)
 unfolding answered told play
-confirm-told s t k r a l e h w = record {
-  told = w ∙ ap (λ (x : ConfirmAnswer). confirmValues x .refusal ∷ confirmValues x .released ∷ confirmValues x .ticket ∷ []) (sym h ∙ ap (λ (x : AfterConfirm). x .answer) e);
+confirm-told s t k r n l e v w = record {
+  told = w ∙ ap three v ∙ ap (λ (x : AfterConfirm). confirmValues (x .answer) .refusal ∷ confirmValues (x .answer) .released ∷ confirmValues (x .answer) .ticket ∷ []) e;
   left = ap (λ (x : AfterConfirm). x .state) e;
 }
 
-pub close-told : (s : Coordinator) (t : ℕ) (r : AfterClose) (a : CloseAnswer) (l : List ℕ) → r ≡ afterClose s t → r .answer ≡ a →
-    l ≡ closeValues a (r .tickets) .refusal ∷ closeValues a (r .tickets) .closed ∷ 0 ∷ [] → Answers s (some (closeJob t)) l (r .state)
+-- how many were closed does not hang on their tickets
+close-numbers : (a : CloseAnswer) (tickets : List ℕ) →
+    closeValues a [] .refusal ∷ closeValues a [] .closed ∷ 0 ∷ [] ≡ closeValues a tickets .refusal ∷ closeValues a tickets .closed ∷ 0 ∷ []
+close-numbers (CloseAnswer.Refused n) tickets = refl
+close-numbers CloseAnswer.Held tickets = refl
+close-numbers (CloseAnswer.Closed n) tickets = refl
+
+pub close-told : (s : Coordinator) (t : ℕ) (r : AfterClose) (n : Numbers) (l : List ℕ) → r ≡ afterClose s t →
+    n ≡ record { refusal = closeValues (r .answer) [] .refusal; first = closeValues (r .answer) [] .closed; second = 0 } → l ≡ three n → Answers s (some (closeJob t)) l (r .state)
 unfolding answered told play
-close-told s t r a l e h w = record {
-  told = w ∙ ap (λ (x : CloseAnswer). closeValues x (r .tickets) .refusal ∷ closeValues x (r .tickets) .closed ∷ 0 ∷ []) (sym h)
+close-told s t r n l e v w = record {
+  told = w ∙ ap three v ∙ close-numbers (r .answer) (r .tickets)
       ∙ ap (λ (x : AfterClose). closeValues (x .answer) (x .tickets) .refusal ∷ closeValues (x .answer) (x .tickets) .closed ∷ 0 ∷ []) e;
   left = ap (λ (x : AfterClose). x .state) e;
 }
 
 -- what is no call
-pub unknown-told : (s : Coordinator) (l : List ℕ) → l ≡ 11 ∷ 0 ∷ 0 ∷ [] → Answers s none l s
+pub unknown-told : (s : Coordinator) (n : Numbers) (l : List ℕ) → n ≡ record { refusal = 11; first = 0; second = 0 } → l ≡ three n → Answers s none l s
 unfolding answered
-unknown-told s l w = record { told = w; left = refl }
+unknown-told s n l v w = record { told = w ∙ ap three v; left = refl }
 
 -- as the kind has it
 pub answers-as : (s : Coordinator) (c d : Option Call) (l : List ℕ) (r : Coordinator) → d ≡ c → Answers s c l r → Answers s d l r

@@ -1,13 +1,9 @@
 // What a record answers.
+use crate::values;
 use coordinator::Coordinator;
-use coordinator::answers::AskAnswer;
-use coordinator::answers::CloseAnswer;
-use coordinator::answers::ConfirmAnswer;
-use coordinator::answers::OpenAnswer;
 use numbers::Database;
 use numbers::Ticket;
 ghost use mathlib.Core.Path.{_≡_};
-ghost use mathlib.Core.List.{[], _∷_};
 ghost use mathlib.Core.Option.{some};
 ghost use lib.ListN.{length};
 ghost use Rattle.coordinator.specs.Call.{openJob, askStep, confirmStep, closeJob};
@@ -15,17 +11,7 @@ ghost use Rattle.lines.specs.Record.{callOf};
 ghost use Rattle.lines.specs.Answered.{Answers};
 
 // A kind that is no call.
-const UNKNOWN_KIND: u32 = 11;
-
-// The three numbers of a line after its index. They are lent, so that only the state is passed by value.
-fn put_numbers(numbers: &mut [u32; 3], refusal: u32, first: u32, second: u32)
-    requires { ⌜ length (now numbers) ≡ 3 ⌝ }
-    ensures { λ r. ⌜ now (numbers .exit) ≡ refusal ∷ first ∷ second ∷ [] ⌝ }
-{
-    numbers[0] = refusal;
-    numbers[1] = first;
-    numbers[2] = second;
-}
+const UNKNOWN_KIND: u8 = 11;
 
 fn opened(s: Coordinator, mask: u16, numbers: &mut [u32; 3]) -> Coordinator
     requires { ⌜ length (now numbers) ≡ 3 ⌝ }
@@ -33,20 +19,8 @@ fn opened(s: Coordinator, mask: u16, numbers: &mut [u32; 3]) -> Coordinator
 {
     let after = s.open(mask);
     let answer = after.answer;
-    match answer {
-        OpenAnswer::Refused(n) => {
-            put_numbers(numbers, n as u32, 0, 0);
-            after.state
-        }
-        OpenAnswer::Opened {
-            ticket,
-            added,
-            moves,
-        } => {
-            put_numbers(numbers, 0, ticket.0 as u32, moves);
-            after.state
-        }
-    }
+    values::put(values::of_open(answer), numbers);
+    after.state
 }
 
 fn asked(s: Coordinator, ticket: u16, database: u8, numbers: &mut [u32; 3]) -> Coordinator
@@ -55,20 +29,8 @@ fn asked(s: Coordinator, ticket: u16, database: u8, numbers: &mut [u32; 3]) -> C
 {
     let after = s.ask(Ticket(ticket), Database(database));
     let answer = after.answer;
-    match answer {
-        AskAnswer::Refused(n) => {
-            put_numbers(numbers, n as u32, 0, 0);
-            after.state
-        }
-        AskAnswer::Released => {
-            put_numbers(numbers, 0, 1, 0);
-            after.state
-        }
-        AskAnswer::Held => {
-            put_numbers(numbers, 0, 0, 0);
-            after.state
-        }
-    }
+    values::put(values::of_ask(answer), numbers);
+    after.state
 }
 
 fn confirmed(s: Coordinator, ticket: u16, database: u8, numbers: &mut [u32; 3]) -> Coordinator
@@ -77,20 +39,8 @@ fn confirmed(s: Coordinator, ticket: u16, database: u8, numbers: &mut [u32; 3]) 
 {
     let after = s.confirm(Ticket(ticket), Database(database));
     let answer = after.answer;
-    match answer {
-        ConfirmAnswer::Refused(n) => {
-            put_numbers(numbers, n as u32, 0, 0);
-            after.state
-        }
-        ConfirmAnswer::Released(t) => {
-            put_numbers(numbers, 0, 1, t.0 as u32);
-            after.state
-        }
-        ConfirmAnswer::Nothing => {
-            put_numbers(numbers, 0, 0, 0);
-            after.state
-        }
-    }
+    values::put(values::of_confirm(answer), numbers);
+    after.state
 }
 
 fn closed(s: Coordinator, ticket: u16, numbers: &mut [u32; 3]) -> Coordinator
@@ -99,20 +49,8 @@ fn closed(s: Coordinator, ticket: u16, numbers: &mut [u32; 3]) -> Coordinator
 {
     let after = s.close(Ticket(ticket));
     let answer = after.answer;
-    match answer {
-        CloseAnswer::Refused(n) => {
-            put_numbers(numbers, n as u32, 0, 0);
-            after.state
-        }
-        CloseAnswer::Held => {
-            put_numbers(numbers, 0, 0, 0);
-            after.state
-        }
-        CloseAnswer::Closed(n) => {
-            put_numbers(numbers, 0, n, 0);
-            after.state
-        }
-    }
+    values::put(values::of_close(answer), numbers);
+    after.state
 }
 
 // Plays the record's call, and leaves its numbers; a kind that is no call changes nothing.
@@ -138,6 +76,6 @@ pub(crate) fn answer_record(
     if kind == 4 {
         return closed(s, value, numbers);
     }
-    put_numbers(numbers, UNKNOWN_KIND, 0, 0);
+    values::put(values::refused(UNKNOWN_KIND), numbers);
     s
 }

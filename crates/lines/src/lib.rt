@@ -1,6 +1,7 @@
 // Plays records of four bytes and writes a line of four decimal numbers for each.
 mod answered;
 mod text;
+mod values;
 
 use answered::answer_record;
 use coordinator::Coordinator;
