@@ -1,6 +1,6 @@
 -- The loop of `play_all`: what is done, with what is still to be done, is the whole. Assumes nothing.
 use Prim.Native.Nat.{ℕ, suc, _+_, _*_, _/_, _≤_, _<_}
-use mathlib.Core.Path.{_≡_, refl, sym, ap, subst, _∙_}
+use mathlib.Core.Path.{_≡_, refl, sym, ap, _∙_}
 use mathlib.Core.Bool.{false}
 use mathlib.Core.List.{List, [], _∷_, _++_}
 use native.Mathlib.Omega.{arith}
@@ -10,8 +10,9 @@ use Rattle.coordinator.specs.declared.Coordinator.{Coordinator}
 use Rattle.layout.specs.Put.{put, Counts}
 use Rattle.layout.proofs.Put.{put-none, put-put, length-put, counts}
 use Rattle.lines.specs.declared.Played.{Played}
+use Rattle.lines.specs.declared.answered.Answered.{Answered}
 use Rattle.lines.specs.Record.{twoBytes, callOf}
-use Rattle.lines.specs.Answered.{Answered, answered, Answers}
+use Rattle.lines.specs.Answered.{answered}
 use Rattle.lines.specs.Line.{line, longest}
 use Rattle.lines.specs.Lines.{answer, lineOf, leftOver, linesOf, stateAfter, linesIn}
 use Rattle.lines.specs.Playing.{Playing, all}
@@ -31,20 +32,12 @@ four b at h =
 abbrev pub answerAt : Coordinator → List ℕ → ℕ → Answered
 answerAt s b at = answer s (getD b at 0) (getD b (at + 1) 0) (getD b (at + 2) 0) (getD b (at + 3) 0)
 
--- the numbers that a record leaves, and the line that is written of them
-abbrev pub Told : Answered → List ℕ → Coordinator → Type 0
-Told q l r = (l ≡ q .refusal ∷ q .first ∷ q .second ∷ []) × (r ≡ q .state)
-
-abbrev pub lineFrom : ℕ → List ℕ → List ℕ
-lineFrom index l = line index (getD l 0 0) (getD l 1 0) (getD l 2 0)
-
 -- as the code reads it: the value's two bytes first
-pub answer-is : (t : Coordinator) (b : List ℕ) (at v : ℕ) (l : List ℕ) (r : Coordinator) → Answers t (callOf (getD b at 0) (getD b (at + 1) 0) v) l r →
-    v ≡ twoBytes (getD b (at + 2) 0) (getD b (at + 2 + 1) 0) → Told (answerAt t b at) l r
-answer-is t b at v l r a ev =
+pub answer-is : (t : Coordinator) (b : List ℕ) (at v : ℕ) (q : Answered) → q ≡ answered t (callOf (getD b at 0) (getD b (at + 1) 0) v) →
+    v ≡ twoBytes (getD b (at + 2) 0) (getD b (at + 2 + 1) 0) → q ≡ answerAt t b at
+answer-is t b at v q eq ev =
     let e : at + 2 + 1 ≡ at + 3 = omega arith in
-    let w : v ≡ twoBytes (getD b (at + 2) 0) (getD b (at + 3) 0) = ev ∙ ap (λ (k : ℕ). twoBytes (getD b (at + 2) 0) (getD b k 0)) e in
-    subst (λ (x : ℕ). Told (answered t (callOf (getD b at 0) (getD b (at + 1) 0) x)) l r) w (a .told, a .left)
+    eq ∙ ap (λ (x : ℕ). answered t (callOf (getD b at 0) (getD b (at + 1) 0) x)) (ev ∙ ap (λ (k : ℕ). twoBytes (getD b (at + 2) 0) (getD b k 0)) e)
 
 lines-on : (i : ℕ) (s : Coordinator) (b : List ℕ) (at : ℕ) → at + 4 ≤ length b →
     linesOf i s (drop at b) ≡ lineOf i (answerAt s b at) ++ linesOf (i + 1) (answerAt s b at .state) (drop (at + 4) b)
@@ -93,19 +86,19 @@ module _ (index : ℕ) (s : Coordinator) (b o₀ o : List ℕ) (t : Coordinator)
   room-left h = omega (arith, g .room, g .count, g .long, g .here)
 
   -- a whole record more
-  pub on : (l : List ℕ) (t₁ : Coordinator) (r : ℕ) (o₁ : List ℕ) → Told (answerAt t b at) l t₁ → at + 4 ≤ length b → r ≡ w + length (lineFrom i l) → r ≤ w + longest →
-      o₁ ≡ put o w (lineFrom i l) → Going index s b o₀ o₁ t₁ (i + 1) (at + 4) r
-  on l t₁ r o₁ a h er lr eo =
-      let e : linesOf i t (drop at b) ≡ lineFrom i l ++ linesOf (i + 1) t₁ (drop (at + 4) b) = rw (a .0, a .1) (lines-on i t b at h) in
+  pub on : (q : Answered) (r : ℕ) (o₁ : List ℕ) → q ≡ answerAt t b at → at + 4 ≤ length b → r ≡ w + length (lineOf i q) → r ≤ w + longest → o₁ ≡ put o w (lineOf i q) →
+      Going index s b o₀ o₁ (q .state) (i + 1) (at + 4) r
+  on q r o₁ eq h er lr eo =
+      let e : linesOf i t (drop at b) ≡ lineOf i q ++ linesOf (i + 1) (q .state) (drop (at + 4) b) = rw eq (lines-on i t b at h) in
       let m : w + longest ≤ length o = room-on h in
       record {
         here = h;
         count = omega (arith, g .count);
         room = omega (arith, g .room);
-        long = ap length eo ∙ length-put o w (lineFrom i l) (omega arith) ∙ g .long;
+        long = ap length eo ∙ length-put o w (lineOf i q) (omega arith) ∙ g .long;
         size = omega (arith, simp length-append at (ap length e), g .size);
-        text = rw (er, eo) (put-put o w (lineFrom i l) (linesOf (i + 1) t₁ (drop (at + 4) b)) (omega arith)) ∙ ap (put o w) (sym e) ∙ g .text;
-        left = ap (λ (x : Coordinator). stateAfter x (drop (at + 4) b)) (a .1) ∙ sym (state-on t b at h) ∙ g .left;
+        text = rw (er, eo) (put-put o w (lineOf i q) (linesOf (i + 1) (q .state) (drop (at + 4) b)) (omega arith)) ∙ ap (put o w) (sym e) ∙ g .text;
+        left = ap (λ (x : Answered). stateAfter (x .state) (drop (at + 4) b)) eq ∙ sym (state-on t b at h) ∙ g .left;
       }
 
   -- some bytes are left over

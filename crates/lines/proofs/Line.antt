@@ -24,7 +24,7 @@ abbrev Wrote : List ℕ → ℕ → List ℕ → ℕ → ℕ → List ℕ → Ty
 Wrote o at t n r o₁ = (r ≡ at + length t) × (r ≤ at + n + 1) × (o₁ ≡ put o at t)
 
 pub line-done : (i refusal first second at : ℕ) (o : List ℕ) (p₁ p₂ p₃ p₄ : ℕ) (o₁ o₂ o₃ o₄ : List ℕ) → at + longest ≤ length o →
-    Wrote o at (word i 32) 20 p₁ o₁ → Wrote o₁ p₁ (word refusal 32) 10 p₂ o₂ → Wrote o₂ p₂ (word first 32) 10 p₃ o₃ → Wrote o₃ p₃ (word second 10) 10 p₄ o₄ →
+    Wrote o at (word i 32) 20 p₁ o₁ → Wrote o₁ p₁ (word refusal 32) 3 p₂ o₂ → Wrote o₂ p₂ (word first 32) 10 p₃ o₃ → Wrote o₃ p₃ (word second 10) 10 p₄ o₄ →
     (p₄ ≡ at + length (line i refusal first second)) × (p₄ ≤ at + longest) × (o₄ ≡ put o at (line i refusal first second))
 unfolding line
 line-done i refusal first second at o p₁ p₂ p₃ p₄ o₁ o₂ o₃ o₄ f h₁ h₂ h₃ h₄ =

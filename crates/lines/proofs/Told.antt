@@ -1,14 +1,9 @@
--- Each answer of each call, as the numbers of its line. Assumes nothing.
+-- The numbers said of each call's answer, beside the state left, are what the record answers. Assumes nothing.
 use Prim.Native.Nat.{ℕ}
-use mathlib.Core.Path.{_≡_, refl, sym, ap, subst, _∙_}
-use mathlib.Core.List.{List, [], _∷_}
-use mathlib.Core.Option.{Option, none, some}
-use native.Mathlib.Omega.{arith}
-use lib.ListN.{length, set}
+use mathlib.Core.Path.{_≡_, refl, sym, ap, _∙_}
+use mathlib.Core.List.{List, []}
+use mathlib.Core.Option.{some, none}
 use Rattle.coordinator.specs.declared.Coordinator.{Coordinator}
-use Rattle.coordinator.specs.declared.answers.OpenAnswer.{OpenAnswer}
-use Rattle.coordinator.specs.declared.answers.AskAnswer.{AskAnswer}
-use Rattle.coordinator.specs.declared.answers.ConfirmAnswer.{ConfirmAnswer}
 use Rattle.coordinator.specs.declared.answers.CloseAnswer.{CloseAnswer}
 use Rattle.coordinator.specs.declared.answers.AfterOpen.{AfterOpen}
 use Rattle.coordinator.specs.declared.answers.AfterAsk.{AfterAsk}
@@ -18,56 +13,37 @@ use Rattle.coordinator.specs.Open.{afterOpen}
 use Rattle.coordinator.specs.Ask.{afterAsk}
 use Rattle.coordinator.specs.Confirm.{afterConfirm}
 use Rattle.coordinator.specs.Close.{afterClose}
-use Rattle.coordinator.specs.Answer.{Values, openValues, askValues, confirmValues, closeValues}
-use Rattle.coordinator.specs.Call.{Call, openJob, askStep, confirmStep, closeJob, play}
-use Rattle.lines.specs.Answered.{told, answered, Answers}
+use Rattle.coordinator.specs.Answer.{Values, closeValues}
+use Rattle.coordinator.specs.Call.{openJob, askStep, confirmStep, closeJob, play}
+use Rattle.lines.specs.declared.answered.Answered.{Answered}
+use Rattle.lines.specs.declared.said.Said.{Said}
+use Rattle.lines.specs.Said.{openSaid, askSaid, confirmSaid, closeSaid}
+use Rattle.lines.specs.Answered.{beside, told, answered}
 
-pub three-put : (l : List ℕ) (a b c : ℕ) → length l ≡ 3 → set (set (set l 0 a) 1 b) 2 c ≡ a ∷ b ∷ c ∷ []
-three-put [] a b c h = absurd (omega arith)
-three-put (x ∷ []) a b c h = absurd (omega arith)
-three-put (x ∷ y ∷ []) a b c h = absurd (omega arith)
-three-put (x ∷ y ∷ z ∷ []) a b c h = refl
-three-put (x ∷ y ∷ z ∷ w ∷ l) a b c h = absurd (omega arith)
-
--- the answer's numbers, with the values of document 01 that they are
-pub open-told : (s : Coordinator) (mask : ℕ) (r : AfterOpen) (a : OpenAnswer) (l : List ℕ) → r ≡ afterOpen s mask → r .answer ≡ a →
-    l ≡ openValues a .refusal ∷ openValues a .ticket ∷ openValues a .moves ∷ [] → Answers s (some (openJob mask)) l (r .state)
+pub open-told : (s : Coordinator) (mask : ℕ) (r : AfterOpen) (q : Said) → r ≡ afterOpen s mask → q ≡ openSaid (r .answer) → beside (r .state) q ≡ answered s (some (openJob mask))
 unfolding answered told play
-open-told s mask r a l e h w = record {
-  told = w ∙ ap (λ (x : OpenAnswer). openValues x .refusal ∷ openValues x .ticket ∷ openValues x .moves ∷ []) (sym h ∙ ap (λ (x : AfterOpen). x .answer) e);
-  left = ap (λ (x : AfterOpen). x .state) e;
-}
+open-told s mask r q e h = ap (beside (r .state)) h ∙ ap (λ (x : AfterOpen). beside (x .state) (openSaid (x .answer))) e
 
-pub ask-told : (s : Coordinator) (t k : ℕ) (r : AfterAsk) (a : AskAnswer) (l : List ℕ) → r ≡ afterAsk s t k → r .answer ≡ a →
-    l ≡ askValues a .refusal ∷ askValues a .released ∷ 0 ∷ [] → Answers s (some (askStep t k)) l (r .state)
+pub ask-told : (s : Coordinator) (t k : ℕ) (r : AfterAsk) (q : Said) → r ≡ afterAsk s t k → q ≡ askSaid (r .answer) → beside (r .state) q ≡ answered s (some (askStep t k))
 unfolding answered told play
-ask-told s t k r a l e h w = record {
-  told = w ∙ ap (λ (x : AskAnswer). askValues x .refusal ∷ askValues x .released ∷ 0 ∷ []) (sym h ∙ ap (λ (x : AfterAsk). x .answer) e);
-  left = ap (λ (x : AfterAsk). x .state) e;
-}
+ask-told s t k r q e h = ap (beside (r .state)) h ∙ ap (λ (x : AfterAsk). beside (x .state) (askSaid (x .answer))) e
 
-pub confirm-told : (s : Coordinator) (t k : ℕ) (r : AfterConfirm) (a : ConfirmAnswer) (l : List ℕ) → r ≡ afterConfirm s t k → r .answer ≡ a →
-    l ≡ confirmValues a .refusal ∷ confirmValues a .released ∷ confirmValues a .ticket ∷ [] → Answers s (some (confirmStep t k)) l (r .state)
+pub confirm-told : (s : Coordinator) (t k : ℕ) (r : AfterConfirm) (q : Said) → r ≡ afterConfirm s t k → q ≡ confirmSaid (r .answer) → beside (r .state) q ≡ answered s (some (confirmStep t k))
 unfolding answered told play
-confirm-told s t k r a l e h w = record {
-  told = w ∙ ap (λ (x : ConfirmAnswer). confirmValues x .refusal ∷ confirmValues x .released ∷ confirmValues x .ticket ∷ []) (sym h ∙ ap (λ (x : AfterConfirm). x .answer) e);
-  left = ap (λ (x : AfterConfirm). x .state) e;
-}
+confirm-told s t k r q e h = ap (beside (r .state)) h ∙ ap (λ (x : AfterConfirm). beside (x .state) (confirmSaid (x .answer))) e
 
-pub close-told : (s : Coordinator) (t : ℕ) (r : AfterClose) (a : CloseAnswer) (l : List ℕ) → r ≡ afterClose s t → r .answer ≡ a →
-    l ≡ closeValues a (r .tickets) .refusal ∷ closeValues a (r .tickets) .closed ∷ 0 ∷ [] → Answers s (some (closeJob t)) l (r .state)
+-- the tickets closed change no number
+any-tickets : (a : CloseAnswer) (tickets : List ℕ) → _≡_ {A = Said} (closeSaid a) (record { refusal = closeValues a tickets .refusal; first = closeValues a tickets .closed; second = 0 })
+any-tickets (CloseAnswer.Refused n) tickets = refl
+any-tickets CloseAnswer.Held tickets = refl
+any-tickets (CloseAnswer.Closed n) tickets = refl
+
+pub close-told : (s : Coordinator) (t : ℕ) (r : AfterClose) (q : Said) → r ≡ afterClose s t → q ≡ closeSaid (r .answer) → beside (r .state) q ≡ answered s (some (closeJob t))
 unfolding answered told play
-close-told s t r a l e h w = record {
-  told = w ∙ ap (λ (x : CloseAnswer). closeValues x (r .tickets) .refusal ∷ closeValues x (r .tickets) .closed ∷ 0 ∷ []) (sym h)
-      ∙ ap (λ (x : AfterClose). closeValues (x .answer) (x .tickets) .refusal ∷ closeValues (x .answer) (x .tickets) .closed ∷ 0 ∷ []) e;
-  left = ap (λ (x : AfterClose). x .state) e;
-}
+close-told s t r q e h =
+    ap (beside (r .state)) (h ∙ any-tickets (r .answer) (r .tickets))
+    ∙ ap (λ (x : AfterClose). beside (x .state) (record { refusal = closeValues (x .answer) (x .tickets) .refusal; first = closeValues (x .answer) (x .tickets) .closed; second = 0 })) e
 
--- what is no call
-pub unknown-told : (s : Coordinator) (l : List ℕ) → l ≡ 11 ∷ 0 ∷ 0 ∷ [] → Answers s none l s
+pub none-told : (s : Coordinator) (q : Said) → _≡_ {A = Said} q (record { refusal = 11; first = 0; second = 0 }) → beside s q ≡ answered s none
 unfolding answered
-unknown-told s l w = record { told = w; left = refl }
-
--- as the kind has it
-pub answers-as : (s : Coordinator) (c d : Option Call) (l : List ℕ) (r : Coordinator) → d ≡ c → Answers s c l r → Answers s d l r
-answers-as s c d l r e a = subst (λ (x : Option Call). Answers s x l r) (sym e) a
+none-told s q h = ap (beside s) h

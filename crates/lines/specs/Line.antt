@@ -17,6 +17,6 @@ word n end = decimalIn 20 n ++ (end ∷ [])
 unfoldable pub line : ℕ → ℕ → ℕ → ℕ → List ℕ
 line index refusal first second = word index 32 ++ (word refusal 32 ++ (word first 32 ++ word second 10))
 
--- the bytes that a line takes at most: 20 digits and three times 10, each with the byte after it
+-- the bytes that a line takes at most: 20 digits, 3, 10 and 10, each with the byte after it
 abbrev pub longest : ℕ
-longest = 54
+longest = 47

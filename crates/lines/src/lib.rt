@@ -1,7 +1,9 @@
 // Plays records of four bytes and writes a line of four decimal numbers for each.
 mod answered;
+mod said;
 mod text;
 
+use answered::Answered;
 use answered::answer_record;
 use coordinator::Coordinator;
 use text::put_line;
@@ -14,10 +16,10 @@ ghost use Rattle.lines.specs.Line.{longest};
 ghost use Rattle.lines.specs.Playing.{Playing, all, playing};
 
 // Bytes left at the end that are no whole record.
-const LEFT_OVER: u32 = 12;
+const LEFT_OVER: u8 = 12;
 
 // The bytes that a line takes at most.
-const LONGEST: usize = 54;
+const LONGEST: usize = 47;
 
 // What playing some records leaves: the state, the next index, how many bytes were written, and whether nothing was played.
 pub struct Played {
@@ -48,24 +50,30 @@ fn play_all(s: Coordinator, index: u64, records: &[u8], out: &mut [u8]) -> Playe
     requires { ⌜ (index < 2 ^ 63) × (length (now records) / 4 < length (now out) / longest) ⌝ }
     ensures { λ r. ⌜ Counts (r .wrote) (now (out .exit)) × (_≡_ {A = Playing} (record { played = r; out = now (out .exit) }) (all s index (now (records .entry)) (now (out .entry)))) ⌝ }
 {
-    let mut t = s;
+    // The state stays inside the last answer: a variable of its own would be one more copy for every record.
+    let mut last = Answered {
+        state: s,
+        refusal: 0,
+        first: 0,
+        second: 0,
+    };
     let mut i = index;
     let mut at = 0;
     let mut w = 0;
     while 4 <= records.len() - at {
         let value = two_bytes(records, at + 2);
-        let mut numbers = [0u32; 3];
-        t = answer_record(t, records[at], records[at + 1], value, &mut numbers);
-        w = put_line(i, numbers[0], numbers[1], numbers[2], out, w);
+        last = answer_record(last.state, records[at], records[at + 1], value);
+        w = put_line(i, last.refusal, last.first, last.second, out, w);
         i += 1;
         at += 4;
     }
+    let state = last.state;
     if at < records.len() {
         w = put_line(i, LEFT_OVER, 0, 0, out, w);
         i += 1;
     }
     Played {
-        state: t,
+        state,
         index: i,
         wrote: w,
         refused: false,

@@ -32,7 +32,7 @@ fn put_word(n: u64, k: usize, end: u8, out: &mut [u8], at: usize) -> usize
 // Writes a line, and returns the index after it.
 pub(crate) fn put_line(
     index: u64,
-    refusal: u32,
+    refusal: u8,
     first: u32,
     second: u32,
     out: &mut [u8],
@@ -42,7 +42,7 @@ pub(crate) fn put_line(
     ensures { λ r. ⌜ (r ≡ at + length (line index refusal first second)) × (r ≤ at + longest) × (now (out .exit) ≡ put (now (out .entry)) at (line index refusal first second)) ⌝ }
 {
     let b = put_word(index, 20, b' ', out, at);
-    let c = put_word(refusal as u64, 10, b' ', out, b);
+    let c = put_word(refusal as u64, 3, b' ', out, b);
     let d = put_word(first as u64, 10, b' ', out, c);
     put_word(second as u64, 10, b'\n', out, d)
 }

@@ -10,11 +10,11 @@ pub struct Standing {
     pub more: bool,
 }
 
-// Room for 16,385 lines of 54 bytes: a line more than a piece has records, as `lines::play` asks.
-fn room() -> [u8; 884790]
-    ensures { λ r. ⌜ 884790 ≡ length r ⌝ }
+// Room for 16,385 lines of 47 bytes: a line more than a piece has records, as `lines::play` asks.
+fn room() -> [u8; 770095]
+    ensures { λ r. ⌜ 770095 ≡ length r ⌝ }
 {
-    [0; 884790]
+    [0; 770095]
 }
 
 // Reads a piece of up to 16,384 records, plays them and writes their lines. Only the last piece is short, so no record is split.
