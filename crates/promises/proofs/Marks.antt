@@ -11,9 +11,6 @@ use Rattle.effects.specs.Effect.{askedAt, confirmedAt, heldAt}
 use Rattle.promises.specs.Told.{Told, askedTold, confirmedTold, closeAskedTold}
 use Rattle.promises.specs.Tied.{Tied}
 
-or-left : (a b : Bool) → a ≡ true → a || b ≡ true
-or-left a b e = rw e
-
 -- one more place of a mark, by slots and by jobs
 pub marked-iff : (J : ℕ → ℕ) (i j k u : ℕ) (p : Bool) (P : Type 0) → (J i ≡ J j → i ≡ j) → (p ≡ true) ↔ P
     → ((eqb i j && eqb k u || p) ≡ true) ↔ (P ⊎ ((J i ≡ J j) × (k ≡ u)))
