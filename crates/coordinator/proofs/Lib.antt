@@ -1,17 +1,13 @@
 -- `Tables`: what the functions over lent arrays say is what the definitions say of the state. `Going`: gathering the steps that may go.
--- `Unconfirmed`: gathering the slots with a step that is not confirmed. `Testing`: the test for soundness over lent arrays is the definition's.
--- `Refusing`, `Step`: what a refusal number tells, and what ask and confirm have read by then. `Asking`, `Confirming`, `Ending`, `Opening`: what ask, confirm, close
--- and open leave, in each way that they end. `Closings`: closing job after job. `Owning`: each open slot has a ticket of its own. `Quiet`: a database where nothing may go before anything.
+-- `Unconfirmed`: gathering the slots with a step that is not confirmed. `Refusing`, `Step`: what a refusal number tells, and what ask and confirm have read by then.
+-- `Asking`, `Confirming`, `Ending`, `Opening`: what ask, confirm, close and open leave, in each way that they end. `Closings`: closing job after job.
 pub mod Tables
 pub mod Unconfirmed
 pub mod Closings
 pub mod Ending
 pub mod Going
-pub mod Testing
 pub mod Refusing
 pub mod Opening
 pub mod Step
 pub mod Asking
 pub mod Confirming
-pub mod Owning
-pub mod Quiet

@@ -6,21 +6,19 @@ use mathlib.Core.Option.{Option, none}
 use Prim.Native.Nat.{ℕ, _^_, _<_}
 use native.Mathlib.Omega.{arith}
 use borrow.Author.Tests.{eqb-false, ltb-true, not-false}
-use lib.Bits.{and-le-l}
 use lib.Dec.{eqb, ltb}
 use Rattle.mask.specs.Member.{holds, lowest}
-use Rattle.mask.proofs.Gather.{gathered-lt}
 use Rattle.mask.proofs.Lowest.{trailing-lowest}
+use Rattle.tables.specs.Tables.{openIn, holdersIn}
+use Rattle.tables.specs.Test.{soundIn}
+use Rattle.tables.proofs.Owning.{holders-lt}
 use Rattle.coordinator.specs.declared.Coordinator.{Coordinator}
 use Rattle.coordinator.specs.Limits.{jobs, databases}
-use Rattle.coordinator.specs.Views.{entry, openSlots, ticket, inMask, asked, released, confirmed}
-use Rattle.coordinator.specs.Holder.{sharers, holders, holder}
+use Rattle.coordinator.specs.Views.{entry, openSlots, inMask, asked, released, confirmed}
+use Rattle.coordinator.specs.Holder.{holders, holder}
 use Rattle.coordinator.specs.Test.{sound}
 use Rattle.coordinator.specs.Refusal.{numberOf, stepRefusal, askRefusal, confirmRefusal}
-use Rattle.coordinator.specs.Tables.{openIn, holdersIn}
-use Rattle.coordinator.specs.Parts.{tables}
-use Rattle.coordinator.proofs.Tables.{holders-are, holder-is}
-use Rattle.coordinator.proofs.Testing.{sound-of}
+use Rattle.coordinator.proofs.Tables.{sound-of, holders-are, holder-is}
 use Rattle.coordinator.proofs.Refusing.{passed, no-row}
 
 -- whether the state is sound, the slots whose job holds the ticket, and the one of them that is meant
@@ -30,20 +28,18 @@ pub record Read (s : Coordinator) (t : ℕ) (b : Bool) (f j : ℕ) : Type 0 wher
   pub slot : j ≡ holder s t
 
 pub read : (s : Coordinator) (t : ℕ) (b : Bool) (f j : ℕ)
-    → b ≡ sound (tables (s .tickets) (s .held) (s .order) (s .named) (s .asked) (s .released) (s .confirmed) (s .dependencies))
+    → b ≡ soundIn (s .tickets) (s .held) (s .order) (s .named) (s .asked) (s .released) (s .confirmed) (s .dependencies)
     → f ≡ holdersIn (s .tickets) (openIn (s .named)) t → j ≡ lowest jobs f → Read s t b f j
 read s t b f j p q r = record {
   soundness = sound-of s b p;
-  found = holders-are s (openIn (s .named)) t f refl q;
-  slot = holder-is s (openIn (s .named)) t f j refl q r;
+  found = holders-are s t f q;
+  slot = holder-is s t f j q r;
 }
 
 -- a ticket that some open job holds has a slot
 holder-below : (s : Coordinator) (t : ℕ) → ¬ (holders s t ≡ 0) → holder s t < jobs
-unfolding holder holders sharers
-holder-below s t n =
-    let l : holders s t < 2 ^ jobs = omega (arith, and-le-l (sharers s t) (openSlots s), gathered-lt (λ j. eqb (ticket s j) t) jobs) in
-    trailing-lowest jobs (holders s t) (omega arith) l .within
+unfolding holder holders
+holder-below s t n = trailing-lowest jobs (holders s t) (omega arith) (holders-lt (s .tickets) (openSlots s) t) .within
 
 -- refusal number 0: no row applies
 

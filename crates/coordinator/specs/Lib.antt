@@ -1,4 +1,4 @@
--- The state: `Limits`, `Fresh`, `Views`, `Shape`. Which states are sound: `Sound`, and its test, `Test`; its parts over the tables: `Parts`. What the code reads of it: `Tables`. The refusals: `Holder`, `Refusal`.
+-- The state: `Limits`, `Fresh`, `Views`, `Shape`. Which states are sound: `Sound`, and its test, `Test`. What the code reads of a state: `Tables`. The refusals: `Holder`, `Refusal`.
 -- The calls: `Change`, `Release`, `Open` (with `Bound`, how many moves it can take), `Ask`, `Confirm`, `Close`; what they answer in document 01's numbers: `Answer`, `Call`.
 pub mod Limits
 pub mod Fresh
@@ -7,7 +7,6 @@ pub mod Shape
 pub mod Sound
 pub mod Holder
 pub mod Test
-pub mod Parts
 pub mod Tables
 pub mod Refusal
 pub mod Change

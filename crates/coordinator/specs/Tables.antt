@@ -2,26 +2,13 @@
 use Prim.Native.Nat.{ℕ, _+_, _*_}
 use mathlib.Core.Bool.{Bool, not, _&&_, _||_}
 use mathlib.Core.List.{List}
-use lib.Bits.{bitAnd}
 use lib.Dec.{eqb}
 use Rattle.loops.specs.Loop.{every}
 use Rattle.loops.specs.Sum.{tally}
 use Rattle.mask.specs.Member.{holds, within}
-use Rattle.mask.specs.Members.{gather, unionOf}
+use Rattle.mask.specs.Members.{gather}
 use Rattle.coordinator.specs.Limits.{jobs, databases}
 use Rattle.coordinator.specs.Views.{entry}
-
--- the slots that some database is named by
-unfoldable pub openIn : List ℕ → ℕ
-openIn named = unionOf databases (λ k. entry named k)
-
--- the slots with ticket t
-unfoldable pub sharersIn : List ℕ → ℕ → ℕ
-sharersIn tickets t = gather jobs (λ j. tally (eqb (entry tickets j) t))
-
--- the open slots with ticket t
-unfoldable pub holdersIn : List ℕ → ℕ → ℕ → ℕ
-holdersIn tickets slots t = bitAnd (sharersIn tickets t) slots
 
 -- the steps at database k that are asked, unreleased, and may go
 unfoldable pub goingIn : List ℕ → ℕ → ℕ → ℕ → ℕ → ℕ

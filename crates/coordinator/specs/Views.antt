@@ -1,15 +1,11 @@
 -- What the tables of a state mean. Slots are below `jobs`, databases below `databases`. Assumes nothing: these are definitions.
 use Prim.Native.Nat.{ℕ, _+_, _*_}
 use mathlib.Core.Bool.{Bool}
-use mathlib.Core.List.{List}
-use lib.ListN.{getD}
 use Rattle.mask.specs.Member.{holds, size}
-use Rattle.mask.specs.Members.{unionOf}
+use Rattle.tables.specs.Tables.{openIn}
+pub use Rattle.tables.specs.Tables.{entry}
 use Rattle.coordinator.specs.declared.Coordinator.{Coordinator}
-use Rattle.coordinator.specs.Limits.{jobs, databases}
-
-abbrev pub entry : List ℕ → ℕ → ℕ
-entry l i = getD l i 0
+use Rattle.coordinator.specs.Limits.{jobs}
 
 -- database k is in the mask of the job in slot j; and the job has a step there. These are two views, so that a step may leave the graph while the mask stays.
 unfoldable pub inMask : Coordinator → ℕ → ℕ → Bool
@@ -30,7 +26,7 @@ confirmed s j k = holds (entry (s .confirmed) k) j
 
 -- a slot is open where its mask is not 0
 unfoldable pub openSlots : Coordinator → ℕ
-openSlots s = unionOf databases (λ k. entry (s .named) k)
+openSlots s = openIn (s .named)
 
 unfoldable pub isOpen : Coordinator → ℕ → Bool
 isOpen s j = holds (openSlots s) j

@@ -5,7 +5,6 @@ use crate::answers::AskAnswer;
 use crate::holder;
 use crate::refusal;
 use crate::release;
-use crate::sound;
 use crate::views;
 use numbers::Database;
 use numbers::Ticket;
@@ -17,7 +16,7 @@ impl Coordinator {
     pub fn ask(mut self, ticket: Ticket, database: Database) -> AfterAsk
         ensures { λ r. ⌜ r ≡ afterAsk self (ticket .0) (database .0) ⌝ }
     {
-        let is_sound = sound::all_sound(
+        let is_sound = tables::sound::all_sound(
             &self.tickets,
             self.held,
             &self.order,
@@ -27,7 +26,7 @@ impl Coordinator {
             &self.confirmed,
             &self.dependencies,
         );
-        let found = holder::holders_of(&self.tickets, &self.named, ticket);
+        let found = tables::holders::holders_of(&self.tickets, &self.named, ticket);
         let slot = holder::holder(found);
         let names = views::holds_at(&self.named, database, slot);
         let asked = views::holds_at(&self.asked, database, slot);

@@ -6,7 +6,6 @@ use crate::cascade;
 use crate::holder;
 use crate::may_close;
 use crate::refusal;
-use crate::sound;
 use numbers::Ticket;
 ghost use mathlib.Core.Path.{_≡_};
 ghost use Rattle.coordinator.specs.Close.{afterClose};
@@ -16,7 +15,7 @@ impl Coordinator {
     pub fn close(mut self, ticket: Ticket) -> AfterClose
         ensures { λ r. ⌜ r ≡ afterClose self (ticket .0) ⌝ }
     {
-        let is_sound = sound::all_sound(
+        let is_sound = tables::sound::all_sound(
             &self.tickets,
             self.held,
             &self.order,
@@ -26,7 +25,7 @@ impl Coordinator {
             &self.confirmed,
             &self.dependencies,
         );
-        let found = holder::holders_of(&self.tickets, &self.named, ticket);
+        let found = tables::holders::holders_of(&self.tickets, &self.named, ticket);
         let slot = holder::holder(found);
         let confirmed = may_close::all_confirmed(&self.named, &self.confirmed, slot);
         let held = mask::slots::holds(self.held, slot.0);

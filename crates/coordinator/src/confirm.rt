@@ -5,7 +5,6 @@ use crate::answers::ConfirmAnswer;
 use crate::holder;
 use crate::refusal;
 use crate::release;
-use crate::sound;
 use crate::views;
 use numbers::Database;
 use numbers::Slot;
@@ -39,7 +38,7 @@ impl Coordinator {
     pub fn confirm(mut self, ticket: Ticket, database: Database) -> AfterConfirm
         ensures { λ r. ⌜ r ≡ afterConfirm self (ticket .0) (database .0) ⌝ }
     {
-        let is_sound = sound::all_sound(
+        let is_sound = tables::sound::all_sound(
             &self.tickets,
             self.held,
             &self.order,
@@ -49,7 +48,7 @@ impl Coordinator {
             &self.confirmed,
             &self.dependencies,
         );
-        let found = holder::holders_of(&self.tickets, &self.named, ticket);
+        let found = tables::holders::holders_of(&self.tickets, &self.named, ticket);
         let slot = holder::holder(found);
         let names = views::holds_at(&self.named, database, slot);
         let settled = is_settled(&self.released, &self.confirmed, database, slot);

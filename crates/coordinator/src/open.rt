@@ -4,9 +4,7 @@ use crate::answers::AfterOpen;
 use crate::answers::OpenAnswer;
 use crate::enter;
 use crate::refusal;
-use crate::sound;
 use crate::tickets;
-use crate::views;
 ghost use mathlib.Core.Path.{_≡_};
 ghost use Rattle.coordinator.specs.Open.{afterOpen};
 
@@ -15,7 +13,7 @@ impl Coordinator {
     pub fn open(mut self, mask: u16) -> AfterOpen
         ensures { λ r. ⌜ r ≡ afterOpen self mask ⌝ }
     {
-        let is_sound = sound::all_sound(
+        let is_sound = tables::sound::all_sound(
             &self.tickets,
             self.held,
             &self.order,
@@ -25,7 +23,7 @@ impl Coordinator {
             &self.confirmed,
             &self.dependencies,
         );
-        let slots = views::open_slots(&self.named);
+        let slots = tables::slots::open_slots(&self.named);
         let refused = refusal::of_open(is_sound, mask, slots);
         let mut answer = OpenAnswer::Refused(refused);
         if refused == 0 {

@@ -9,18 +9,6 @@ ghost use lib.ListN.{length};
 ghost use Rattle.mask.specs.Member.{holds};
 ghost use Rattle.coordinator.specs.Limits.{jobs, databases};
 ghost use Rattle.coordinator.specs.Views.{entry};
-ghost use Rattle.coordinator.specs.Tables.{openIn};
-
-// The open slots: those that some database is named by.
-pub(crate) fn open_slots(named: &[u32; Coordinator::DATABASES]) -> u32
-    ensures { λ r. ⌜ r ≡ openIn (now (named .entry)) ⌝ }
-{
-    let mut m = 0u32;
-    for k in 0..Coordinator::DATABASES {
-        m = m | named[k];
-    }
-    m
-}
 
 // The set at database k; beyond the last database there is none.
 pub(crate) fn at(sets: &[u32; Coordinator::DATABASES], k: Database) -> u32

@@ -8,17 +8,18 @@ use Rattle.loops.proofs.Tests.{both, and-left, and-right, and-both, untrue}
 use Rattle.loops.proofs.Turns.{every-at, every-of}
 use Rattle.mask.specs.Member.{within}
 use Rattle.mask.proofs.Equal.{within-iff}
+use Rattle.tables.specs.Test.{ticketSound, placeSound, soundIn}
 use Rattle.coordinator.specs.declared.Coordinator.{Coordinator}
 use Rattle.coordinator.specs.Limits.{jobs, databases}
 use Rattle.coordinator.specs.Shape.{Shape}
 use Rattle.coordinator.specs.Sound.{Ordered, Joins, Zeros, Sound}
-use Rattle.coordinator.specs.Test.{ticketSound, placeSound, databaseSound, sound}
+use Rattle.coordinator.specs.Test.{sound}
 use Rattle.coordinator.specs.Views.{inMask, names, asked, released, confirmed, openSlots, isOpen, held, dep}
 use Rattle.effects.proofs.Bounds.{asked-range, released-range, confirmed-range, names-range, dep-range, slots-small, open-iff, open-names}
 use Rattle.decision.specs.Clause.{Tickets, Marks, Row}
 use Rattle.decision.proofs.Tickets.{tickets-iff}
 use Rattle.decision.proofs.Order.{order-iff}
-use Rattle.decision.proofs.Steps.{database-iff}
+use Rattle.decision.proofs.Steps.{databaseOf, database-iff}
 
 -- the four parts of the test, in views
 record Parts (s : Coordinator) : Type 0 where
@@ -36,20 +37,20 @@ module _ (s : Coordinator) (h : Shape s) where
   held-within = within-iff jobs (s .held) (openSlots s) (h .held) (slots-small s h)
 
   sound-is : sound s
-      ≡ (within jobs (s .held) (openSlots s) && every jobs (ticketSound s (openSlots s)) && every jobs (placeSound s (openSlots s)) && every databases (databaseSound s))
-  unfolding sound
+      ≡ (within jobs (s .held) (openSlots s) && every jobs (ticketSound (s .tickets) (openSlots s)) && every jobs (placeSound (s .order) (openSlots s)) && every databases (databaseOf s))
+  unfolding sound soundIn openSlots
   sound-is = refl
 
   parts-of : sound s ≡ true → Parts s
   parts-of e =
       let all = sym sound-is ∙ e in
-      let third = and-left (within jobs (s .held) (openSlots s) && every jobs (ticketSound s (openSlots s)) && every jobs (placeSound s (openSlots s))) _ all in
-      let second = and-left (within jobs (s .held) (openSlots s) && every jobs (ticketSound s (openSlots s))) _ third in
-      let at : (k : ℕ) → k < databases → databaseSound s k ≡ true = every-at databases _ (and-right (within jobs (s .held) (openSlots s) && every jobs (ticketSound s (openSlots s)) && every jobs (placeSound s (openSlots s))) _ all) in
+      let third = and-left (within jobs (s .held) (openSlots s) && every jobs (ticketSound (s .tickets) (openSlots s)) && every jobs (placeSound (s .order) (openSlots s))) _ all in
+      let second = and-left (within jobs (s .held) (openSlots s) && every jobs (ticketSound (s .tickets) (openSlots s))) _ third in
+      let at : (k : ℕ) → k < databases → databaseOf s k ≡ true = every-at databases _ (and-right (within jobs (s .held) (openSlots s) && every jobs (ticketSound (s .tickets) (openSlots s)) && every jobs (placeSound (s .order) (openSlots s))) _ all) in
       record {
         held-open = held-within .0 (and-left (within jobs (s .held) (openSlots s)) _ second);
         tickets = tickets-iff s h .0 (and-right (within jobs (s .held) (openSlots s)) _ second);
-        order = order-iff s h .0 (and-right (within jobs (s .held) (openSlots s) && every jobs (ticketSound s (openSlots s))) _ third);
+        order = order-iff s h .0 (and-right (within jobs (s .held) (openSlots s) && every jobs (ticketSound (s .tickets) (openSlots s))) _ third);
         marks = λ k l. database-iff s h k .0 (at k l) .0;
         rows = λ k l. database-iff s h k .0 (at k l) .1;
       }

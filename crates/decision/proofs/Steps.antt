@@ -17,10 +17,10 @@ use Rattle.mask.specs.Member.{holds, excluding, less, within}
 use Rattle.mask.proofs.Change.{excluding-lt, less-lt}
 use Rattle.mask.proofs.Holds.{holds-none, holds-and, holds-excluding, holds-less-any}
 use Rattle.mask.proofs.Equal.{within-iff}
+use Rattle.tables.specs.Test.{marksSound, partners, pressing, rowSound, rowsSound, stepsSound, databaseSound}
 use Rattle.coordinator.specs.declared.Coordinator.{Coordinator}
 use Rattle.coordinator.specs.Limits.{jobs, databases}
 use Rattle.coordinator.specs.Shape.{Shape}
-use Rattle.coordinator.specs.Test.{marksSound, partners, pressing, rowSound, rowsSound, databaseSound}
 use Rattle.coordinator.specs.Views.{entry, inMask, names, asked, released, confirmed, held, into, dep}
 use Rattle.effects.proofs.Bounds.{into-small}
 use Rattle.decision.specs.Clause.{Marks, Row}
@@ -58,6 +58,11 @@ holds-pressing waiting under b a = by (holds waiting b)
     by : (t : Bool) → holds (elim t [ true ↦ under | false ↦ 0 ]) a ≡ t && holds under a
     by true = refl
     by false = holds-none a
+
+-- a database of a state
+
+abbrev pub databaseOf : Coordinator → ℕ → Bool
+databaseOf s = databaseSound (s .held) (s .named) (s .asked) (s .released) (s .confirmed) (s .dependencies)
 
 module _ (s : Coordinator) (h : Shape s) (k : ℕ) where
   abbrev named : ℕ
@@ -167,8 +172,8 @@ module _ (s : Coordinator) (h : Shape s) (k : ℕ) where
   unfolding into
   row-at b = ap (rowSound named waiting under b) (getD-drop (k * jobs) (s .dependencies) b 0)
 
-  pub database-iff : (databaseSound s k ≡ true) ↔ (Marks s k × ((b : ℕ) → b < jobs → Row s k b))
-  unfolding databaseSound
+  pub database-iff : (databaseOf s k ≡ true) ↔ (Marks s k × ((b : ℕ) → b < jobs → Row s k b))
+  unfolding databaseSound stepsSound
   database-iff = (
     λ e. (
       marks-to (and-left _ (rowsSound (drop (k * jobs) (s .dependencies)) named waiting under) e),

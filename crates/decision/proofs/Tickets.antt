@@ -9,24 +9,23 @@ use borrow.Author.Tests.{eq-eqb, eqb-true}
 use lib.Dec.{eqb}
 use Rattle.loops.specs.Loop.{every}
 use Rattle.loops.proofs.Turns.{every-at, every-of}
+use Rattle.tables.specs.Tables.{holdersIn}
+use Rattle.tables.specs.Test.{ticketSound}
+use Rattle.tables.proofs.Owning.{only-iff}
 use Rattle.coordinator.specs.declared.Coordinator.{Coordinator}
 use Rattle.coordinator.specs.Limits.{jobs}
 use Rattle.coordinator.specs.Shape.{Shape}
 use Rattle.coordinator.specs.Views.{entry, openSlots, isOpen, ticket}
-use Rattle.coordinator.specs.Holder.{sharers}
-use Rattle.coordinator.specs.Tables.{sharersIn, holdersIn}
-use Rattle.coordinator.specs.Test.{ticketSound}
-use Rattle.coordinator.proofs.Owning.{only-iff}
 use Rattle.effects.proofs.Bounds.{entry-beyond, slots-small, open-range}
 use Rattle.decision.specs.Clause.{Tickets}
 
 module _ (s : Coordinator) where
-  at-open : (j : ℕ) → isOpen s j ≡ true → ticketSound s (openSlots s) j ≡ eqb (holdersIn (s .tickets) (openSlots s) (entry (s .tickets) j)) (2 ^ j)
-  unfolding ticketSound isOpen holdersIn sharersIn sharers ticket
+  at-open : (j : ℕ) → isOpen s j ≡ true → ticketSound (s .tickets) (openSlots s) j ≡ eqb (holdersIn (s .tickets) (openSlots s) (entry (s .tickets) j)) (2 ^ j)
+  unfolding ticketSound isOpen
   at-open j e = rw (ticketSound, e)
 
-  at-free : (j : ℕ) → isOpen s j ≡ false → ticketSound s (openSlots s) j ≡ eqb (ticket s j) 0
-  unfolding ticketSound isOpen
+  at-free : (j : ℕ) → isOpen s j ≡ false → ticketSound (s .tickets) (openSlots s) j ≡ eqb (ticket s j) 0
+  unfolding ticketSound isOpen ticket
   at-free j e = rw (ticketSound, e)
 
 module _ (s : Coordinator) (h : Shape s) where
@@ -40,7 +39,7 @@ module _ (s : Coordinator) (h : Shape s) where
   unfolding ticket
   beyond-none j g = entry-beyond (h .tickets) j (omega arith)
 
-  to : every jobs (ticketSound s (openSlots s)) ≡ true → Tickets s
+  to : every jobs (ticketSound (s .tickets) (openSlots s)) ≡ true → Tickets s
   to e = record {
     differ = λ a b p q t.
         let l = open-range s h b q in
@@ -51,12 +50,12 @@ module _ (s : Coordinator) (h : Shape s) where
     ];
   }
 
-  from : Tickets s → every jobs (ticketSound s (openSlots s)) ≡ true
+  from : Tickets s → every jobs (ticketSound (s .tickets) (openSlots s)) ≡ true
   from t = every-of jobs _ (λ j l. by j l (isOpen s j) refl)
     where
-      by : (j : ℕ) → j < jobs → (b : Bool) → isOpen s j ≡ b → ticketSound s (openSlots s) j ≡ true
+      by : (j : ℕ) → j < jobs → (b : Bool) → isOpen s j ≡ b → ticketSound (s .tickets) (openSlots s) j ≡ true
       by j l true o = at-open s j o ∙ eq-eqb (holdersIn (s .tickets) (openSlots s) (entry (s .tickets) j)) (2 ^ j) (only-one j o .1 (λ a p q. t .differ a j p o q))
       by j l false o = at-free s j o ∙ eq-eqb (ticket s j) 0 (t .none j o)
 
-  pub tickets-iff : (every jobs (ticketSound s (openSlots s)) ≡ true) ↔ Tickets s
+  pub tickets-iff : (every jobs (ticketSound (s .tickets) (openSlots s)) ≡ true) ↔ Tickets s
   tickets-iff = (to, from)

@@ -12,6 +12,7 @@ use Rattle.mask.specs.Member.{holds}
 use Rattle.mask.proofs.Holds.{holds-none, holds-below}
 use Rattle.mask.proofs.Size.{size-le}
 use Rattle.mask.proofs.Union.{union-iff, union-lt}
+use Rattle.tables.specs.Tables.{openIn}
 use Rattle.coordinator.specs.declared.Coordinator.{Coordinator}
 use Rattle.coordinator.specs.Limits.{jobs, databases}
 use Rattle.coordinator.specs.Shape.{Sized, Shape}
@@ -72,11 +73,11 @@ module _ (s : Coordinator) (h : Shape s) where
   -- the open slots
 
   pub slots-small : openSlots s < 2 ^ jobs
-  unfolding openSlots
+  unfolding openSlots openIn
   slots-small = union-lt (λ k. entry (s .named) k) jobs databases (λ k l. h .named .fits k)
 
   pub open-iff : (j : ℕ) → (isOpen s j ≡ true) ↔ ((k : ℕ) × (k < databases) × (names s j k ≡ true))
-  unfolding isOpen openSlots names inMask
+  unfolding isOpen openSlots openIn names inMask
   open-iff j = union-iff (λ k. entry (s .named) k) databases j
 
   pub open-names : (j k : ℕ) → names s j k ≡ true → isOpen s j ≡ true

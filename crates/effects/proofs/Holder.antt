@@ -1,24 +1,23 @@
 -- Whose ticket it is, where a slot stands in the opening order, and which slot is free, in views. Assumes nothing.
 use Prim.Native.Nat.{ℕ, _^_, _<_, _≤_}
-use native.Mathlib.Nat.{lt-of-le-of-lt}
 use native.Mathlib.Omega.{arith}
-use mathlib.Core.Bool.{Bool, true, false, _&&_}
-use mathlib.Core.Path.{_≡_, ap, sym, _∙_}
+use mathlib.Core.Bool.{true, false, _&&_}
+use mathlib.Core.Path.{_≡_, sym, _∙_}
 use borrow.Author.Tests.{eq-eqb, eqb-true}
-use lib.Bits.{and-le-l}
 use lib.Dec.{eqb}
 use Rattle.loops.proofs.Tests.{and-left, and-right, and-both}
 use Rattle.mask.specs.Member.{holds}
 use Rattle.mask.proofs.Gather.{holds-gather, gathered-lt}
-use Rattle.mask.proofs.Holds.{holds-and, holds-pos}
+use Rattle.mask.proofs.Holds.{holds-pos}
 use Rattle.mask.proofs.Lowest.{trailing-lowest, lowest-of, lowest-holds, lowest-first, free-holds}
 use Rattle.mask.proofs.Size.{size-free}
+use Rattle.tables.proofs.Owning.{holds-holders, holders-lt}
 use Rattle.coordinator.specs.declared.Coordinator.{Coordinator}
 use Rattle.coordinator.specs.Limits.{jobs}
 use Rattle.coordinator.specs.Shape.{Shape}
 use Rattle.coordinator.specs.Sound.{Sound}
 use Rattle.coordinator.specs.Views.{openSlots, isOpen, openCount, ticket, opened}
-use Rattle.coordinator.specs.Holder.{sharers, holders, holder}
+use Rattle.coordinator.specs.Holder.{holders, holder}
 use Rattle.coordinator.specs.Change.{place}
 use Rattle.coordinator.specs.Open.{freeSlot}
 use Rattle.effects.proofs.Bounds.{slots-small, open-range}
@@ -27,12 +26,12 @@ module _ (s : Coordinator) where
   -- the slot of the job that holds ticket t
 
   holders-are : (t j : ℕ) → j < jobs → holds (holders s t) j ≡ eqb (ticket s j) t && isOpen s j
-  unfolding holders sharers isOpen
-  holders-are t j l = holds-and (sharers s t) (openSlots s) j ∙ ap (λ (b : Bool). b && isOpen s j) (holds-gather (λ j. eqb (ticket s j) t) jobs j l)
+  unfolding holders isOpen ticket
+  holders-are t j l = holds-holders (s .tickets) (openSlots s) t j l
 
   holders-small : (t : ℕ) → holders s t < 2 ^ jobs
-  unfolding holders sharers
-  holders-small t = lt-of-le-of-lt (and-le-l (sharers s t) (openSlots s)) (gathered-lt (λ j. eqb (ticket s j) t) jobs)
+  unfolding holders
+  holders-small t = holders-lt (s .tickets) (openSlots s) t
 
   pub holder-is : (t : ℕ) → ¬ (holders s t ≡ 0) → (holder s t < jobs) × (isOpen s (holder s t) ≡ true) × (ticket s (holder s t) ≡ t)
   unfolding holder

@@ -10,9 +10,11 @@ use Rattle.mask.specs.Member.{including, excluding}
 use Rattle.mask.specs.Members.{overMembers, gather, unionOf}
 use Rattle.walks.specs.Search.{openingSearch}
 use Rattle.numbers.specs.Ticket.{absentIn, freeFrom}
+use Rattle.tables.specs.Tables.{openIn, sharersIn, holdersIn}
+use Rattle.tables.specs.Test.{ticketSound, listed, placeSound, partners, pressing, rowSound, rowsSound, marksSound, stepsSound, databaseSound, soundIn}
 use Rattle.coordinator.specs.Views.{inMask, names, asked, released, confirmed, openSlots, isOpen, openCount, ticket, held, opened, into, dep}
-use Rattle.coordinator.specs.Holder.{sharers, holders, holder}
-use Rattle.coordinator.specs.Test.{ticketSound, listed, placeSound, partners, pressing, rowSound, rowsSound, marksSound, databaseSound, sound}
+use Rattle.coordinator.specs.Holder.{holders, holder}
+use Rattle.coordinator.specs.Test.{sound}
 use Rattle.coordinator.specs.Refusal.{firstRow, allConfirmed, openRefusal, askRefusal, confirmRefusal, closeRefusal, jobRefusal, slotRefusal, stepRefusal}
 use Rattle.coordinator.specs.Change.{mark, markAsked, markReleased, markConfirmed, withDependencies, lead, leadTo, taken}
 use Rattle.coordinator.specs.Release.{mayGo, release, mayGoAt, firstOf}
@@ -26,7 +28,7 @@ use Rattle.coordinator.specs.declared.Coordinator.{Coordinator}
 use Rattle.promises.specs.Sheet.{Holds, openings, fullTable, oneLeft, sheet, AllHold}
 
 full-table : Holds fullTable
-unfolding answers play afterOpen accepted added withFound searched entered ticketFor heldTickets freeSlot afterAsk askedFor afterConfirm confirmedAt releasedOne mayGo release mayGoAt firstOf mark markAsked markReleased markConfirmed withDependencies lead leadTo taken firstRow allConfirmed openRefusal askRefusal confirmRefusal closeRefusal ticketSound listed placeSound partners pressing rowSound rowsSound marksSound databaseSound sound sharers holders holder inMask names asked released confirmed openSlots isOpen openCount ticket held opened into dep over every guard choice sum table including excluding overMembers gather unionOf openingSearch absentIn freeFrom onesIn trailingZeros slotRefusal stepRefusal jobRefusal
+unfolding answers play afterOpen accepted added withFound searched entered ticketFor heldTickets freeSlot afterAsk askedFor afterConfirm confirmedAt releasedOne mayGo release mayGoAt firstOf mark markAsked markReleased markConfirmed withDependencies lead leadTo taken firstRow allConfirmed openRefusal askRefusal confirmRefusal closeRefusal ticketSound listed placeSound partners pressing rowSound rowsSound marksSound stepsSound databaseSound soundIn sound openIn sharersIn holdersIn holders holder inMask names asked released confirmed openSlots isOpen openCount ticket held opened into dep over every guard choice sum table including excluding overMembers gather unionOf openingSearch absentIn freeFrom onesIn trailingZeros slotRefusal stepRefusal jobRefusal
 full-table = refl
 
 -- what the first of the calls answer does not depend on those that follow
@@ -39,5 +41,5 @@ one-left : Holds oneLeft
 one-left = sym (first-answers (fresh 0) (openings 32) (openJob 0 ∷ openJob 1 ∷ [])) ∙ ap (take 32) full-table
 
 pub job-sheet : AllHold sheet
-unfolding answers play afterOpen accepted added withFound searched entered ticketFor heldTickets freeSlot afterAsk askedFor afterConfirm confirmedAt releasedOne mayGo release mayGoAt firstOf mark markAsked markReleased markConfirmed withDependencies lead leadTo taken firstRow allConfirmed openRefusal askRefusal confirmRefusal closeRefusal ticketSound listed placeSound partners pressing rowSound rowsSound marksSound databaseSound sound sharers holders holder inMask names asked released confirmed openSlots isOpen openCount ticket held opened into dep over every guard choice sum table including excluding overMembers gather unionOf openingSearch absentIn freeFrom onesIn trailingZeros slotRefusal stepRefusal jobRefusal
+unfolding answers play afterOpen accepted added withFound searched entered ticketFor heldTickets freeSlot afterAsk askedFor afterConfirm confirmedAt releasedOne mayGo release mayGoAt firstOf mark markAsked markReleased markConfirmed withDependencies lead leadTo taken firstRow allConfirmed openRefusal askRefusal confirmRefusal closeRefusal ticketSound listed placeSound partners pressing rowSound rowsSound marksSound stepsSound databaseSound soundIn sound openIn sharersIn holdersIn holders holder inMask names asked released confirmed openSlots isOpen openCount ticket held opened into dep over every guard choice sum table including excluding overMembers gather unionOf openingSearch absentIn freeFrom onesIn trailingZeros slotRefusal stepRefusal jobRefusal
 job-sheet = (refl, (refl, (refl, (refl, (refl, (refl, (refl, (refl, (full-table, (one-left, (refl, tt)))))))))))

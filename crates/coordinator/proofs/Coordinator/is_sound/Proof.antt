@@ -1,10 +1,10 @@
-use Rattle.coordinator.proofs.Testing.{sound-of}
+use Rattle.coordinator.proofs.Tables.{sound-of}
 use borrow.Author.Needs.{needs}
 use Rattle.coordinator.proofs.Coordinator.is_sound.Statement.{statement}
 use Rattle.coordinator.proofs.Coordinator.is_sound.Tie as tie
 use Rattle.coordinator.proofs.Coordinator.is_sound.Reads as reads
 use Rattle.coordinator.proofs.Coordinator.is_sound.Lts as lts
-use Rattle.coordinator.proofs.sound.all_sound.Reads as all-sound-reads
+use Rattle.tables.proofs.sound.all_sound.Reads as all-sound-reads
 
 -- src/sound.rt:203:9
 all-sound-requires : tie.Need-all-sound-requires

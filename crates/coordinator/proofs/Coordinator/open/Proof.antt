@@ -1,8 +1,7 @@
 use borrow.Author.Needs.{needs}
 use mathlib.Core.Path.{_∙_}
 use native.Mathlib.Omega.{arith}
-use Rattle.coordinator.proofs.Tables.{open-slots-are}
-use Rattle.coordinator.proofs.Testing.{sound-of}
+use Rattle.coordinator.proofs.Tables.{sound-of, open-slots-are}
 use Rattle.coordinator.proofs.Opening.{room-left, slot-fits, open-refused, open-accepted, opened-at}
 use Rattle.coordinator.proofs.Coordinator.open.Statement.{statement}
 use Rattle.coordinator.proofs.Coordinator.open.Tie as tie
