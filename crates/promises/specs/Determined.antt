@@ -9,6 +9,8 @@ use Rattle.numbers.specs.declared.maker.Handed.{Handed}
 use Rattle.numbers.specs.Ticket.{absentIn, after, ticketFrom}
 use Rattle.search.specs.declared.Sought.{Sought}
 use Rattle.search.specs.Search.{sought}
+use Rattle.tables.specs.Tables.{openIn, holdersIn}
+use Rattle.tables.specs.Test.{soundIn}
 use Rattle.coordinator.specs.declared.Coordinator.{Coordinator}
 use Rattle.coordinator.specs.declared.answers.AfterOpen.{AfterOpen}
 use Rattle.coordinator.specs.declared.answers.AfterAsk.{AfterAsk}
@@ -34,6 +36,11 @@ pub record Determined : Type 0 where
   pub start : (n : ℕ) → Determines (λ (r : Coordinator). r ≡ fresh n)
   pub is-sound : (s : Coordinator) → Determines (λ (r : Bool). r ≡ sound s)
   pub most-moves : (s : Coordinator) → Determines (λ (r : ℕ). r ≡ mostMoves s)
+  -- its tables
+  pub open-slots : (named : List ℕ) → Determines (λ (r : ℕ). r ≡ openIn named)
+  pub holders-of : (tickets named : List ℕ) (t : ℕ) → Determines (λ (r : ℕ). r ≡ holdersIn tickets (openIn named) t)
+  pub all-sound : (tickets : List ℕ) (held : ℕ) (order named asked released confirmed dependencies : List ℕ)
+      → Determines (λ (r : Bool). r ≡ soundIn tickets held order named asked released confirmed dependencies)
   -- the opening search
   pub search : (named dependencies : List ℕ) (n : ℕ) → Determines (λ (r : Sought). r ≡ sought named dependencies n)
   -- the number maker. `take` gives the ticket and leaves the number maker behind the reference; `hand_out` gives both back.
