@@ -1,9 +1,9 @@
 -- What ask and confirm read of a state before they change it, and what refusal number 0 tells then. Assumes nothing.
-use mathlib.Core.Path.{_≡_, refl, sym, _∙_}
+use mathlib.Core.Path.{_≡_, sym, _∙_}
 use mathlib.Core.Bool.{Bool, not, _||_}
 use mathlib.Core.List.{[]}
 use mathlib.Core.Option.{Option, none}
-use Prim.Native.Nat.{ℕ, _^_, _<_}
+use Prim.Native.Nat.{ℕ, _<_}
 use native.Mathlib.Omega.{arith}
 use borrow.Author.Tests.{eqb-false, ltb-true, not-false}
 use lib.Dec.{eqb, ltb}

@@ -1,6 +1,6 @@
 -- For the callers: what the functions over lent arrays say of the tables is what the definitions say of the state. Assumes nothing.
 use Prim.Native.Nat.{ℕ}
-use mathlib.Core.Path.{_≡_, refl, _∙_}
+use mathlib.Core.Path.{_≡_, refl}
 use mathlib.Core.Bool.{Bool}
 use Rattle.mask.specs.Member.{lowest}
 use Rattle.tables.specs.Tables.{openIn, holdersIn}

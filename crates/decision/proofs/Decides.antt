@@ -19,7 +19,7 @@ use Rattle.effects.proofs.Bounds.{asked-range, released-range, confirmed-range,
 use Rattle.decision.specs.Clause.{Tickets, Marks, Row}
 use Rattle.decision.proofs.Tickets.{tickets-iff}
 use Rattle.decision.proofs.Order.{order-iff}
-use Rattle.decision.proofs.Steps.{databaseOf, database-iff}
+use Rattle.decision.proofs.Steps.{soundAt, database-iff}
 
 -- the four parts of the test, in views
 record Parts (s : Coordinator) : Type 0 where
@@ -37,7 +37,7 @@ module _ (s : Coordinator) (h : Shape s) where
   held-within = within-iff jobs (s .held) (openSlots s) (h .held) (slots-small s h)
 
   sound-is : sound s
-      ≡ (within jobs (s .held) (openSlots s) && every jobs (ticketSound (s .tickets) (openSlots s)) && every jobs (placeSound (s .order) (openSlots s)) && every databases (databaseOf s))
+      ≡ (within jobs (s .held) (openSlots s) && every jobs (ticketSound (s .tickets) (openSlots s)) && every jobs (placeSound (s .order) (openSlots s)) && every databases (soundAt s))
   unfolding sound soundIn openSlots
   sound-is = refl
 
@@ -46,7 +46,7 @@ module _ (s : Coordinator) (h : Shape s) where
       let all = sym sound-is ∙ e in
       let third = and-left (within jobs (s .held) (openSlots s) && every jobs (ticketSound (s .tickets) (openSlots s)) && every jobs (placeSound (s .order) (openSlots s))) _ all in
       let second = and-left (within jobs (s .held) (openSlots s) && every jobs (ticketSound (s .tickets) (openSlots s))) _ third in
-      let at : (k : ℕ) → k < databases → databaseOf s k ≡ true = every-at databases _ (and-right (within jobs (s .held) (openSlots s) && every jobs (ticketSound (s .tickets) (openSlots s)) && every jobs (placeSound (s .order) (openSlots s))) _ all) in
+      let at : (k : ℕ) → k < databases → soundAt s k ≡ true = every-at databases _ (and-right (within jobs (s .held) (openSlots s) && every jobs (ticketSound (s .tickets) (openSlots s)) && every jobs (placeSound (s .order) (openSlots s))) _ all) in
       record {
         held-open = held-within .0 (and-left (within jobs (s .held) (openSlots s)) _ second);
         tickets = tickets-iff s h .0 (and-right (within jobs (s .held) (openSlots s)) _ second);

@@ -22,7 +22,7 @@ use Rattle.coordinator.specs.declared.Coordinator.{Coordinator}
 use Rattle.coordinator.specs.Limits.{jobs}
 use Rattle.coordinator.specs.Shape.{Shape}
 use Rattle.coordinator.specs.Sound.{Ordered}
-use Rattle.coordinator.specs.Views.{entry, openSlots, isOpen, openCount, opened}
+use Rattle.coordinator.specs.Views.{openSlots, isOpen, openCount, opened}
 use Rattle.effects.proofs.Bounds.{entry-beyond, open-range, count-le}
 
 module _ (s : Coordinator) where

@@ -59,10 +59,10 @@ holds-pressing waiting under b a = by (holds waiting b)
     by true = refl
     by false = holds-none a
 
--- a database of a state
+-- the test of a database, of a state
 
-abbrev pub databaseOf : Coordinator → ℕ → Bool
-databaseOf s = databaseSound (s .held) (s .named) (s .asked) (s .released) (s .confirmed) (s .dependencies)
+abbrev pub soundAt : Coordinator → ℕ → Bool
+soundAt s = databaseSound (s .held) (s .named) (s .asked) (s .released) (s .confirmed) (s .dependencies)
 
 module _ (s : Coordinator) (h : Shape s) (k : ℕ) where
   abbrev named : ℕ
@@ -172,7 +172,7 @@ module _ (s : Coordinator) (h : Shape s) (k : ℕ) where
   unfolding into
   row-at b = ap (rowSound named waiting under b) (getD-drop (k * jobs) (s .dependencies) b 0)
 
-  pub database-iff : (databaseOf s k ≡ true) ↔ (Marks s k × ((b : ℕ) → b < jobs → Row s k b))
+  pub database-iff : (soundAt s k ≡ true) ↔ (Marks s k × ((b : ℕ) → b < jobs → Row s k b))
   unfolding databaseSound stepsSound
   database-iff = (
     λ e. (

@@ -12,7 +12,7 @@ use lib.Seq.{getD-drop}
 use Rattle.loops.specs.Loop.{every}
 use Rattle.loops.proofs.Tests.{and-left}
 use Rattle.loops.proofs.Turns.{over-none, over-more, every-same}
-use Rattle.mask.specs.Member.{holds, including, less, within, size}
+use Rattle.mask.specs.Member.{holds, less, within, size}
 use Rattle.mask.specs.Members.{unionOf}
 use Rattle.mask.proofs.Holds.{holds-beyond}
 use Rattle.mask.proofs.Words.{or-shl}

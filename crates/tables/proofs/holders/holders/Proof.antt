@@ -6,11 +6,11 @@ use Rattle.tables.proofs.holders.holders.Reads as reads
 use Rattle.tables.proofs.holders.holders.Lts as lts
 use Rattle.tables.proofs.holders.sharers.Reads as sharers-reads
 
--- src/holder.rt:35:5
+-- src/holders.rt:35:5
 sharers-requires : tie.Need-sharers-requires
 sharers-requires c κs = search needs
 
--- src/holder.rt:32:1
+-- src/holders.rt:32:1
 returns : tie.Need-returns
 unfolding holdersIn
 returns c = rw (c .sharers .ensures)

@@ -1,4 +1,3 @@
-use mathlib.Core.Path.{refl}
 use Rattle.mask.proofs.Words.{and-not-shl, meets-shl, misses-shl}
 use Rattle.tables.specs.Test.{partners}
 use borrow.Author.Needs.{needs}

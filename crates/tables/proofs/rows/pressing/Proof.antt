@@ -1,4 +1,3 @@
-use mathlib.Core.Path.{refl}
 use Rattle.mask.proofs.Words.{meets-shl, misses-shl}
 use Rattle.tables.specs.Test.{pressing}
 use borrow.Author.Needs.{needs}

@@ -20,31 +20,31 @@ Inv-loop named m₀ k₀ m k = (k ≤ databases) × (m ≡ over k (λ i x. bitOr
 abbrev μ-loop : tie.MeasureT-loop
 μ-loop named m₀ k₀ m k = databases - k
 
--- src/views.rt:11:5
+-- src/slots.rt:11:5
 loop-holds : tie.Need-loop-holds Inv-loop μ-loop
 loop-holds c = (search needs, over-none _ _)
 
--- src/views.rt:12:17
+-- src/slots.rt:12:17
 mul-m : tie.Need-mul-m Inv-loop μ-loop
 mul-m c = search needs
 
--- src/views.rt:12:17
+-- src/slots.rt:12:17
 element-copy-out-m : tie.Need-element-copy-out-m Inv-loop μ-loop
 element-copy-out-m c = search needs
 
--- src/views.rt:11:9
+-- src/slots.rt:11:9
 add-k : tie.Need-add-k Inv-loop μ-loop
 add-k c = search needs
 
--- src/views.rt:11:5
+-- src/slots.rt:11:5
 loop-less : tie.Need-loop-less Inv-loop μ-loop
 loop-less c = search needs
 
--- src/views.rt:11:5
+-- src/slots.rt:11:5
 loop-again : tie.Need-loop-again Inv-loop μ-loop
 loop-again c = (omega arith, over-more _ _ _ (c .before .before .loop .inv .1))
 
--- src/views.rt:7:1
+-- src/slots.rt:7:1
 returns : tie.Need-returns Inv-loop μ-loop
 unfolding openIn unionOf
 returns c = over-done _ _ databases _ (c .before .loop .inv .0) (c .loop-test .left) (c .before .loop .inv .1)
