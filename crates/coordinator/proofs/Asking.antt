@@ -11,23 +11,23 @@ use Rattle.coordinator.specs.declared.answers.AfterAsk.{AfterAsk}
 use Rattle.coordinator.specs.Limits.{jobs}
 use Rattle.coordinator.specs.Views.{entry, into}
 use Rattle.coordinator.specs.Holder.{holder}
-use Rattle.coordinator.specs.Refusal.{numberOf, askRefusal}
+use Rattle.coordinator.specs.Refusal.{numberOf, askRefusalTested}
 use Rattle.coordinator.specs.Change.{mark, markAsked, markReleased, withDependencies, leadTo}
 use Rattle.coordinator.specs.Release.{mayGo, release}
-use Rattle.coordinator.specs.Ask.{askedFor, afterAsk}
+use Rattle.coordinator.specs.Ask.{askedFor, afterAskTested}
 use Rattle.coordinator.proofs.Refusing.{refused}
 
-module _ (s : Coordinator) (t k : ℕ) where
-  pub ask-refused : (o : Option ℕ) → o ≡ askRefusal s t k → (r : ℕ) → r ≡ numberOf o → ¬ (r ≡ 0)
-      → _≡_ {A = AfterAsk} (record { answer = AskAnswer.Refused r; state = s }) (afterAsk s t k)
-  unfolding afterAsk
-  ask-refused o rows r e n = rw (afterAsk, ← rows, refused o r e n)
+module _ (b : Bool) (s : Coordinator) (t k : ℕ) where
+  pub ask-refused : (o : Option ℕ) → o ≡ askRefusalTested b s t k → (r : ℕ) → r ≡ numberOf o → ¬ (r ≡ 0)
+      → _≡_ {A = AfterAsk} (record { answer = AskAnswer.Refused r; state = s }) (afterAskTested b s t k)
+  unfolding afterAskTested
+  ask-refused o rows r e n = rw (afterAskTested, ← rows, refused o r e n)
 
-  accepted : (j : ℕ) → j ≡ holder s t → askRefusal s t k ≡ none → askedFor s j k ≡ afterAsk s t k
-  unfolding afterAsk
-  accepted j h e = rw (afterAsk, e, h)
+  accepted : (j : ℕ) → j ≡ holder s t → askRefusalTested b s t k ≡ none → askedFor s j k ≡ afterAskTested b s t k
+  unfolding afterAskTested
+  accepted j h e = rw (afterAskTested, e, h)
 
-  module _ (j : ℕ) (taken : askRefusal s t k ≡ none) (slot : j ≡ holder s t) (asked : List ℕ) (marked : asked ≡ mark (s .asked) k j) (goes : Bool)
+  module _ (j : ℕ) (taken : askRefusalTested b s t k ≡ none) (slot : j ≡ holder s t) (asked : List ℕ) (marked : asked ≡ mark (s .asked) k j) (goes : Bool)
       (tested : goes ≡ within jobs (entry (s .dependencies) (k * jobs + j)) (entry (s .confirmed) k)) where
     pub ask-held : goes ≡ false
         → _≡_ {A = AfterAsk}
@@ -45,7 +45,7 @@ module _ (s : Coordinator) (t k : ℕ) where
             maker = s .maker;
           };
         })
-        (afterAsk s t k)
+        (afterAskTested b s t k)
     unfolding askedFor markAsked mayGo into
     ask-held e = rw (← accepted j slot taken, askedFor, ← tested, e, marked)
 
@@ -67,6 +67,6 @@ module _ (s : Coordinator) (t k : ℕ) where
             maker = s .maker;
           };
         })
-        (afterAsk s t k)
+        (afterAskTested b s t k)
     unfolding askedFor markAsked mayGo into release markReleased withDependencies
     ask-released e released p later q dependencies d = rw (← accepted j slot taken, askedFor, ← tested, e, d, q, p, marked)

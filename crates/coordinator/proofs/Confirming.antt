@@ -1,5 +1,6 @@
 -- What confirm leaves, in each of the three ways that it ends. Assumes nothing.
 use mathlib.Core.Path.{_≡_, sym}
+use mathlib.Core.Bool.{Bool}
 use mathlib.Core.List.{List}
 use mathlib.Core.Option.{Option, none}
 use Prim.Native.Nat.{ℕ}
@@ -11,29 +12,29 @@ use Rattle.coordinator.specs.declared.answers.AfterConfirm.{AfterConfirm
 use Rattle.coordinator.specs.Limits.{jobs}
 use Rattle.coordinator.specs.Views.{entry, asked, released, into, ticket}
 use Rattle.coordinator.specs.Holder.{holder}
-use Rattle.coordinator.specs.Refusal.{numberOf, confirmRefusal}
+use Rattle.coordinator.specs.Refusal.{numberOf, confirmRefusalTested}
 use Rattle.coordinator.specs.Change.{mark, markConfirmed, markReleased, withDependencies, leadTo}
 use Rattle.coordinator.specs.Release.{mayGo, mayGoAt, firstOf, release}
-use Rattle.coordinator.specs.Confirm.{releasedOne, confirmedAt, afterConfirm}
+use Rattle.coordinator.specs.Confirm.{releasedOne, confirmedAt, afterConfirmTested}
 use Rattle.coordinator.specs.Tables.{goingIn}
 use Rattle.coordinator.proofs.Refusing.{refused}
 
-module _ (s : Coordinator) (t k : ℕ) where
-  pub confirm-refused : (o : Option ℕ) → o ≡ confirmRefusal s t k → (r : ℕ) → r ≡ numberOf o → ¬ (r ≡ 0)
-      → _≡_ {A = AfterConfirm} (record { answer = ConfirmAnswer.Refused r; state = s }) (afterConfirm s t k)
-  unfolding afterConfirm
-  confirm-refused o rows r e n = rw (afterConfirm, ← rows, refused o r e n)
+module _ (b : Bool) (s : Coordinator) (t k : ℕ) where
+  pub confirm-refused : (o : Option ℕ) → o ≡ confirmRefusalTested b s t k → (r : ℕ) → r ≡ numberOf o → ¬ (r ≡ 0)
+      → _≡_ {A = AfterConfirm} (record { answer = ConfirmAnswer.Refused r; state = s }) (afterConfirmTested b s t k)
+  unfolding afterConfirmTested
+  confirm-refused o rows r e n = rw (afterConfirmTested, ← rows, refused o r e n)
 
-  accepted : (j : ℕ) → j ≡ holder s t → confirmRefusal s t k ≡ none → confirmedAt s j k ≡ afterConfirm s t k
-  unfolding afterConfirm
-  accepted j h e = rw (afterConfirm, e, h)
+  accepted : (j : ℕ) → j ≡ holder s t → confirmRefusalTested b s t k ≡ none → confirmedAt s j k ≡ afterConfirmTested b s t k
+  unfolding afterConfirmTested
+  accepted j h e = rw (afterConfirmTested, e, h)
 
   -- those that may go, once the step is confirmed
   free-are : (j free : ℕ) → free ≡ goingIn (s .dependencies) k (entry (s .asked) k) (entry (s .released) k) (entry (mark (s .confirmed) k j) k) → mayGoAt (markConfirmed s j k) k ≡ free
   unfolding goingIn mayGoAt mayGo into asked released markConfirmed
   free-are j free e = sym e
 
-  module _ (j : ℕ) (taken : confirmRefusal s t k ≡ none) (slot : j ≡ holder s t) (confirmed : List ℕ) (marked : confirmed ≡ mark (s .confirmed) k j) (free : ℕ)
+  module _ (j : ℕ) (taken : confirmRefusalTested b s t k ≡ none) (slot : j ≡ holder s t) (confirmed : List ℕ) (marked : confirmed ≡ mark (s .confirmed) k j) (free : ℕ)
       (going : free ≡ goingIn (s .dependencies) k (entry (s .asked) k) (entry (s .released) k) (entry confirmed k)) where
     pub confirm-nothing : free ≡ 0
         → _≡_ {A = AfterConfirm}
@@ -51,7 +52,7 @@ module _ (s : Coordinator) (t k : ℕ) where
             maker = s .maker;
           };
         })
-        (afterConfirm s t k)
+        (afterConfirmTested b s t k)
     unfolding confirmedAt markConfirmed
     confirm-nothing z = rw (← accepted j slot taken, confirmedAt, free-are j free (rw marked at going), eq-eqb free 0 z, marked)
 
@@ -73,7 +74,7 @@ module _ (s : Coordinator) (t k : ℕ) where
             maker = s .maker;
           };
         })
-        (afterConfirm s t k)
+        (afterConfirmTested b s t k)
     unfolding confirmedAt markConfirmed releasedOne firstOf ticket release markReleased withDependencies
     confirm-released n i f number w released p later q dependencies d =
         let e = free-are j free (rw marked at going) in

@@ -7,7 +7,7 @@ use mathlib.Core.Option.{Option, none, some}
 use mathlib.Core.Path.{_≡_, refl, sym, ap, _∙_}
 use borrow.Author.Tests.{lt-ltb, eqb-false}
 use lib.Dec.{eqb}
-use lib.ListN.{set}
+use lib.ListN.{length, set}
 use Rattle.loops.specs.Loop.{over}
 use Rattle.loops.specs.Table.{table}
 use Rattle.mask.specs.Member.{lowest, size}
@@ -22,11 +22,12 @@ use Rattle.coordinator.specs.declared.answers.OpenAnswer.{OpenAnswer}
 use Rattle.coordinator.specs.declared.answers.OpenAnswer.the-variants.{Refused, Opened}
 use Rattle.coordinator.specs.Limits.{jobs, databases}
 use Rattle.coordinator.specs.Views.{entry, inMask, names, openSlots, openCount, ticket, opened, into, dep}
-use Rattle.coordinator.specs.Test.{sound}
-use Rattle.coordinator.specs.Refusal.{numberOf, slotRefusal, openRefusal}
+use Rattle.coordinator.specs.Refusal.{numberOf, slotRefusal, openRefusalTested}
 use Rattle.coordinator.specs.Change.{mark, lead, taken, withDependencies}
-use Rattle.coordinator.specs.Open.{freeSlot, heldTickets, ticketFor, entered, withFound, added, accepted, afterOpen}
+use Rattle.coordinator.specs.Open.{freeSlot, heldTickets, ticketFor, entered, withFound, added, accepted, afterOpenTested}
 use Rattle.coordinator.specs.Open as open-spec
+use Rattle.coordinator.specs.Tables.{ticketAt}
+use Rattle.coordinator.proofs.Reach.{ticket-there}
 use Rattle.coordinator.proofs.Refusing.{refused, passed, no-row}
 
 module _ (mask slots r : ℕ) (b : Bool) (e : r ≡ numberOf (slotRefusal b mask (size jobs slots))) where
@@ -46,24 +47,24 @@ module _ (mask slots r : ℕ) (b : Bool) (e : r ≡ numberOf (slotRefusal b mask
     pub slot-fits : slots < 2 ^ jobs → (n : ℕ) → n ≡ lowest jobs (2 ^ jobs - 1 - slots) → n < jobs
     slot-fits h n at = rw at (size-free jobs slots h room-left .within)
 
-  module _ (s : Coordinator) (p : b ≡ sound s) (q : slots ≡ openSlots s) where
-    rows-are : slotRefusal b mask (size jobs slots) ≡ openRefusal s mask
-    unfolding slotRefusal openRefusal openCount
-    rows-are = rw (p, q)
+  module _ (s : Coordinator) (q : slots ≡ openSlots s) where
+    rows-are : slotRefusal b mask (size jobs slots) ≡ openRefusalTested b s mask
+    unfolding slotRefusal openCount
+    rows-are = rw q
 
-    pub open-refused : ¬ (r ≡ 0) → record { answer = OpenAnswer.Refused r; state = s } ≡ afterOpen s mask
-    unfolding afterOpen
-    open-refused n = rw (afterOpen, sym rows-are ∙ refused (slotRefusal b mask (size jobs slots)) r e n)
+    pub open-refused : ¬ (r ≡ 0) → record { answer = OpenAnswer.Refused r; state = s } ≡ afterOpenTested b s mask
+    unfolding afterOpenTested
+    open-refused n = rw (afterOpenTested, sym rows-are ∙ refused (slotRefusal b mask (size jobs slots)) r e n)
 
-    pub open-accepted : r ≡ 0 → (n : ℕ) → n ≡ lowest jobs (2 ^ jobs - 1 - slots) → accepted s n mask ≡ afterOpen s mask
-    unfolding afterOpen freeSlot
-    open-accepted z n at = rw (at, q, afterOpen, sym rows-are ∙ none-applies z .0)
+    pub open-accepted : r ≡ 0 → (n : ℕ) → n ≡ lowest jobs (2 ^ jobs - 1 - slots) → accepted s n mask ≡ afterOpenTested b s mask
+    unfolding afterOpenTested freeSlot
+    open-accepted z n at = rw (at, q, afterOpenTested, sym rows-are ∙ none-applies z .0)
 
 -- what the code has done when it accepts, in slot n
 module _
     (s : Coordinator) (mask slots n count : ℕ) (t : Ticket) (next : NumberMaker) (named before left : List ℕ) (more moves : ℕ)
-    (q : slots ≡ openSlots s) (below : n < jobs) (c : count ≡ size jobs slots)
-    (given : t .0 ≡ ticketFrom (table count (λ i. entry (s .tickets) (entry (s .order) i))) (s .maker .next)) (moved : next .next ≡ after (t .0))
+    (sized : length (s .tickets) ≡ jobs) (q : slots ≡ openSlots s) (below : n < jobs) (c : count ≡ size jobs slots)
+    (given : t .0 ≡ ticketFrom (table count (λ i. ticketAt (s .tickets) (entry (s .order) i))) (s .maker .next)) (moved : next .next ≡ after (t .0))
     (marked : named ≡ overMembers databases mask (λ k l. mark l k n) (s .named))
     (led : before ≡ overMembers databases mask (λ k. lead k (entry (s .released) k) n) (s .dependencies))
     (found : left ≡ over databases (λ k. lead k (entry (sought named before n .found) k) n) before)
@@ -71,7 +72,10 @@ module _
   where
     number-is : t .0 ≡ ticketFor s
     unfolding ticketFor heldTickets ticket opened openCount
-    number-is = given ∙ rw (c, q)
+    number-is =
+        given
+        ∙ (λ i. ticketFrom (table count (λ p. ticket-there (s .tickets) sized (entry (s .order) p) i)) (s .maker .next))
+        ∙ rw (c, q)
 
     ticket-is : t ≡ record { 0 = ticketFor s }
     ticket-is = λ i. record { 0 = number-is i }

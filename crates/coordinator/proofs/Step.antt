@@ -10,31 +10,24 @@ use lib.Dec.{eqb, ltb}
 use Rattle.mask.specs.Member.{holds, lowest}
 use Rattle.mask.proofs.Lowest.{trailing-lowest}
 use Rattle.tables.specs.Tables.{openIn, holdersIn}
-use Rattle.tables.specs.Test.{soundIn}
 use Rattle.tables.proofs.Owning.{holders-lt}
 use Rattle.coordinator.specs.declared.Coordinator.{Coordinator}
 use Rattle.coordinator.specs.Limits.{jobs, databases}
-use Rattle.coordinator.specs.Views.{entry, openSlots, inMask, asked, released, confirmed}
+use Rattle.coordinator.specs.Views.{openSlots, inMask, asked, released, confirmed}
 use Rattle.coordinator.specs.Holder.{holders, holder}
-use Rattle.coordinator.specs.Test.{sound}
-use Rattle.coordinator.specs.Refusal.{numberOf, stepRefusal, askRefusal, confirmRefusal}
-use Rattle.coordinator.proofs.Tables.{sound-of, holders-are, holder-is}
+use Rattle.coordinator.specs.Refusal.{numberOf, stepRefusal, askRefusalTested, confirmRefusalTested}
+use Rattle.coordinator.specs.Tables.{setAt}
+use Rattle.coordinator.proofs.Reach.{set-below, rows-same}
+use Rattle.coordinator.proofs.Tables.{holders-are, holder-is}
 use Rattle.coordinator.proofs.Refusing.{passed, no-row}
 
--- whether the state is sound, the slots whose job holds the ticket, and the one of them that is meant
-pub record Read (s : Coordinator) (t : ℕ) (b : Bool) (f j : ℕ) : Type 0 where
-  pub soundness : b ≡ sound s
+-- the slots whose job holds the ticket, and the one of them that is meant
+pub record Read (s : Coordinator) (t f j : ℕ) : Type 0 where
   pub found : f ≡ holders s t
   pub slot : j ≡ holder s t
 
-pub read : (s : Coordinator) (t : ℕ) (b : Bool) (f j : ℕ)
-    → b ≡ soundIn (s .tickets) (s .held) (s .order) (s .named) (s .asked) (s .released) (s .confirmed) (s .dependencies)
-    → f ≡ holdersIn (s .tickets) (openIn (s .named)) t → j ≡ lowest jobs f → Read s t b f j
-read s t b f j p q r = record {
-  soundness = sound-of s b p;
-  found = holders-are s t f q;
-  slot = holder-is s t f j q r;
-}
+pub read : (s : Coordinator) (t f j : ℕ) → f ≡ holdersIn (s .tickets) (openIn (s .named)) t → j ≡ lowest jobs f → Read s t f j
+read s t f j q r = record { found = holders-are s t f q; slot = holder-is s t f j q r }
 
 -- a ticket that some open job holds has a slot
 holder-below : (s : Coordinator) (t : ℕ) → ¬ (holders s t ≡ 0) → holder s t < jobs
@@ -59,20 +52,23 @@ module _ (b : Bool) (f k : ℕ) (names applies : Bool) (m : ℕ) (n : ¬ (m ≡ 
       let h = passed (record { applies = applies; number = m }) [] n (g .2) in
       record { none-applies = a .1 ∙ c .1 ∙ d .1 ∙ g .1 ∙ h .1 ∙ no-row; database = ltb-true k databases (not-false _ (d .0)); some-hold = eqb-false f 0 (c .0) }
 
-module _ {s : Coordinator} {t : ℕ} {b : Bool} {f j : ℕ} (r : Read s t b f j) where
+module _ {s : Coordinator} {t f j : ℕ} (r : Read s t f j) where
   pub slot-below : ¬ (f ≡ 0) → j < jobs
   slot-below n = rw (r .slot) (holder-below s t (λ q. n (r .found ∙ q)))
 
   -- the rows that the code goes down are the call's
-  pub ask-rows : (k : ℕ) (names applies : Bool) → names ≡ holds (entry (s .named) k) j → applies ≡ holds (entry (s .asked) k) j
-      → stepRefusal b f k names applies 6 ≡ askRefusal s t k
-  unfolding stepRefusal askRefusal inMask asked
-  ask-rows k names applies p q = rw (p, q, r .soundness, r .found, r .slot)
+  pub ask-rows : (b : Bool) (k : ℕ) (names applies : Bool) → names ≡ holds (setAt (s .named) k) j → applies ≡ holds (setAt (s .asked) k) j
+      → stepRefusal b f k names applies 6 ≡ askRefusalTested b s t k
+  unfolding inMask asked
+  ask-rows b k names applies p q =
+      rows-same b f k names applies (inMask s (holder s t) k) (asked s (holder s t) k) 6 (λ l. p ∙ rw (← set-below (s .named) k l, r .slot)) (λ l. q ∙ rw (← set-below (s .asked) k l, r .slot)) ∙ rw (r .found)
 
-  pub confirm-rows : (k : ℕ) (names applies : Bool) → names ≡ holds (entry (s .named) k) j
-      → applies ≡ not (holds (entry (s .released) k) j) || holds (entry (s .confirmed) k) j → stepRefusal b f k names applies 7 ≡ confirmRefusal s t k
-  unfolding stepRefusal confirmRefusal inMask released confirmed
-  confirm-rows k names applies p q = rw (p, q, r .soundness, r .found, r .slot)
+  pub confirm-rows : (b : Bool) (k : ℕ) (names applies : Bool) → names ≡ holds (setAt (s .named) k) j
+      → applies ≡ not (holds (setAt (s .released) k) j) || holds (setAt (s .confirmed) k) j → stepRefusal b f k names applies 7 ≡ confirmRefusalTested b s t k
+  unfolding inMask released confirmed
+  confirm-rows b k names applies p q =
+      rows-same b f k names applies (inMask s (holder s t) k) (not (released s (holder s t) k) || confirmed s (holder s t) k) 7 (λ l. p ∙ rw (← set-below (s .named) k l, r .slot))
+      (λ l. q ∙ rw (← set-below (s .released) k l, ← set-below (s .confirmed) k l, r .slot)) ∙ rw (r .found)
 
 -- a call that is not refused: o is its refusal, and what it changes is in range
 
@@ -81,8 +77,22 @@ pub record Accepted (o : Option ℕ) (s : Coordinator) (t k j : ℕ) : Type 0 wh
   pub slot : j ≡ holder s t
   pub fits : (k < databases) × (j < jobs)
 
-pub step-accepted : {s : Coordinator} {t : ℕ} {b : Bool} {f j : ℕ} → Read s t b f j → (k : ℕ) (names applies : Bool) (m x : ℕ) → ¬ (m ≡ 0) → (o : Option ℕ)
+pub step-accepted : {s : Coordinator} {t f j : ℕ} → Read s t f j → (b : Bool) (k : ℕ) (names applies : Bool) (m x : ℕ) → ¬ (m ≡ 0) → (o : Option ℕ)
     → stepRefusal b f k names applies m ≡ o → x ≡ numberOf (stepRefusal b f k names applies m) → x ≡ 0 → Accepted o s t k j
-step-accepted {b = b} {f = f} r k names applies m x n o rows e z =
+step-accepted {f = f} r b k names applies m x n o rows e z =
     let p = step-passed b f k names applies m n (sym e ∙ z) in
     record { none-applies = sym rows ∙ p .none-applies; slot = r .slot; fits = (p .database, slot-below r (p .some-hold)) }
+
+pub ask-accepted : (b : Bool) (s : Coordinator) (t k f j : ℕ) (names applies : Bool) (x : ℕ) → f ≡ holdersIn (s .tickets) (openIn (s .named)) t → j ≡ lowest jobs f
+    → names ≡ holds (setAt (s .named) k) j → applies ≡ holds (setAt (s .asked) k) j → x ≡ numberOf (stepRefusal b f k names applies 6) → x ≡ 0
+    → Accepted (askRefusalTested b s t k) s t k j
+ask-accepted b s t k f j names applies x p q n a e z =
+    let r = read s t f j p q in
+    step-accepted r b k names applies 6 x (λ w. omega arith) _ (ask-rows r b k names applies n a) e z
+
+pub confirm-accepted : (b : Bool) (s : Coordinator) (t k f j : ℕ) (names applies : Bool) (x : ℕ) → f ≡ holdersIn (s .tickets) (openIn (s .named)) t → j ≡ lowest jobs f
+    → names ≡ holds (setAt (s .named) k) j → applies ≡ not (holds (setAt (s .released) k) j) || holds (setAt (s .confirmed) k) j
+    → x ≡ numberOf (stepRefusal b f k names applies 7) → x ≡ 0 → Accepted (confirmRefusalTested b s t k) s t k j
+confirm-accepted b s t k f j names applies x p q n a e z =
+    let r = read s t f j p q in
+    step-accepted r b k names applies 7 x (λ w. omega arith) _ (confirm-rows r b k names applies n a) e z

@@ -11,7 +11,7 @@ use Rattle.coordinator.specs.declared.answers.AfterClose.{AfterClose}
 use Rattle.coordinator.specs.Limits.{jobs}
 use Rattle.coordinator.specs.Views.{ticket}
 use Rattle.coordinator.specs.Holder.{holder}
-use Rattle.coordinator.specs.Refusal.{closeRefusal}
+use Rattle.coordinator.specs.Refusal.{closeRefusal, closeRefusalTested}
 use Rattle.coordinator.specs.Change.{markHeld, removed}
 use Rattle.coordinator.specs.Release.{mayClose, mayCloseNow, firstOf}
 
@@ -47,5 +47,13 @@ closedAt s j =
       | false ↦ record { answer = CloseAnswer.Held; tickets = noTickets; state = markHeld s j }
     ]
 
+-- refused, or done
+abbrev pub closeAnswered : Option ℕ → Coordinator → ℕ → AfterClose
+closeAnswered refusal s t = elim refusal [ none ↦ closedAt s (holder s t) | some n ↦ record { answer = CloseAnswer.Refused n; tickets = noTickets; state = s } ]
+
 unfoldable pub afterClose : Coordinator → ℕ → AfterClose
-afterClose s t = elim (closeRefusal s t) [ none ↦ closedAt s (holder s t) | some n ↦ record { answer = CloseAnswer.Refused n; tickets = noTickets; state = s } ]
+afterClose s t = closeAnswered (closeRefusal s t) s t
+
+-- the same, given whether the state is sound
+unfoldable pub afterCloseTested : Bool → Coordinator → ℕ → AfterClose
+afterCloseTested isSound s t = closeAnswered (closeRefusalTested isSound s t) s t

@@ -8,7 +8,7 @@ use Rattle.coordinator.specs.declared.answers.ConfirmAnswer.{ConfirmAnsw
 use Rattle.coordinator.specs.declared.answers.AfterConfirm.{AfterConfirm}
 use Rattle.coordinator.specs.Views.{ticket}
 use Rattle.coordinator.specs.Holder.{holder}
-use Rattle.coordinator.specs.Refusal.{confirmRefusal}
+use Rattle.coordinator.specs.Refusal.{confirmRefusal, confirmRefusalTested}
 use Rattle.coordinator.specs.Change.{markConfirmed}
 use Rattle.coordinator.specs.Release.{release, mayGoAt, firstOf}
 
@@ -25,5 +25,13 @@ confirmedAt s j k =
       | false ↦ releasedOne t (firstOf t (mayGoAt t k)) k
     ]
 
+-- refused, or done
+abbrev pub confirmAnswered : Option ℕ → Coordinator → ℕ → ℕ → AfterConfirm
+confirmAnswered refusal s t k = elim refusal [ none ↦ confirmedAt s (holder s t) k | some n ↦ record { answer = ConfirmAnswer.Refused n; state = s } ]
+
 unfoldable pub afterConfirm : Coordinator → ℕ → ℕ → AfterConfirm
-afterConfirm s t k = elim (confirmRefusal s t k) [ none ↦ confirmedAt s (holder s t) k | some n ↦ record { answer = ConfirmAnswer.Refused n; state = s } ]
+afterConfirm s t k = confirmAnswered (confirmRefusal s t k) s t k
+
+-- the same, given whether the state is sound
+unfoldable pub afterConfirmTested : Bool → Coordinator → ℕ → ℕ → AfterConfirm
+afterConfirmTested isSound s t k = confirmAnswered (confirmRefusalTested isSound s t k) s t k

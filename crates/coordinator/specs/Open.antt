@@ -1,5 +1,6 @@
 -- Opening a job. Assumes nothing: these are definitions.
 use Prim.Native.Nat.{ℕ, _+_, _-_, _^_}
+use mathlib.Core.Bool.{Bool}
 use mathlib.Core.List.{List}
 use mathlib.Core.Option.{Option, none, some}
 use Rattle.loops.specs.Loop.{over}
@@ -18,7 +19,7 @@ use Rattle.coordinator.specs.declared.answers.AfterOpen.{AfterOpen}
 use Rattle.coordinator.specs.Limits.{jobs, databases, steps}
 use Rattle.coordinator.specs.Views.{entry, names, openSlots, openCount, ticket, opened, dep}
 use Rattle.coordinator.specs.Change.{withDependencies, lead, taken}
-use Rattle.coordinator.specs.Refusal.{openRefusal}
+use Rattle.coordinator.specs.Refusal.{openRefusal, openRefusalTested}
 
 -- the lowest free slot
 unfoldable pub freeSlot : Coordinator → ℕ
@@ -56,5 +57,13 @@ accepted s n mask =
     let r : Seek (rows jobs databases) = searched t n in
     record { answer = OpenAnswer.Opened (record { 0 = ticketFor s }) (added (r .found)) (r .moves); state = withFound t n (r .found) }
 
+-- refused, or done
+abbrev pub openAnswered : Option ℕ → Coordinator → ℕ → AfterOpen
+openAnswered refusal s mask = elim refusal [ none ↦ accepted s (freeSlot s) mask | some n ↦ record { answer = OpenAnswer.Refused n; state = s } ]
+
 unfoldable pub afterOpen : Coordinator → ℕ → AfterOpen
-afterOpen s mask = elim (openRefusal s mask) [ none ↦ accepted s (freeSlot s) mask | some n ↦ record { answer = OpenAnswer.Refused n; state = s } ]
+afterOpen s mask = openAnswered (openRefusal s mask) s mask
+
+-- the same, given whether the state is sound
+unfoldable pub afterOpenTested : Bool → Coordinator → ℕ → AfterOpen
+afterOpenTested isSound s mask = openAnswered (openRefusalTested isSound s mask) s mask

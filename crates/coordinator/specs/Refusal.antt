@@ -59,15 +59,29 @@ jobRefusal isSound found isConfirmed isHeld =
     ∷ record { applies = isHeld; number = 9 }
     ∷ [])
 
+-- the refusal of each call, given whether the state is sound
+abbrev pub openRefusalTested : Bool → Coordinator → ℕ → Option ℕ
+openRefusalTested isSound s mask = slotRefusal isSound mask (openCount s)
+
+abbrev pub askRefusalTested : Bool → Coordinator → ℕ → ℕ → Option ℕ
+askRefusalTested isSound s t k = stepRefusal isSound (holders s t) k (inMask s (holder s t) k) (asked s (holder s t) k) 6
+
+abbrev pub confirmRefusalTested : Bool → Coordinator → ℕ → ℕ → Option ℕ
+confirmRefusalTested isSound s t k =
+    stepRefusal isSound (holders s t) k (inMask s (holder s t) k) (not (released s (holder s t) k) || confirmed s (holder s t) k) 7
+
+abbrev pub closeRefusalTested : Bool → Coordinator → ℕ → Option ℕ
+closeRefusalTested isSound s t = jobRefusal isSound (holders s t) (allConfirmed s (holder s t)) (held s (holder s t))
+
+-- and of a state as it is
 unfoldable pub openRefusal : Coordinator → ℕ → Option ℕ
-openRefusal s mask = slotRefusal (sound s) mask (openCount s)
+openRefusal s mask = openRefusalTested (sound s) s mask
 
 unfoldable pub askRefusal : Coordinator → ℕ → ℕ → Option ℕ
-askRefusal s t k = stepRefusal (sound s) (holders s t) k (inMask s (holder s t) k) (asked s (holder s t) k) 6
+askRefusal s t k = askRefusalTested (sound s) s t k
 
 unfoldable pub confirmRefusal : Coordinator → ℕ → ℕ → Option ℕ
-confirmRefusal s t k =
-    stepRefusal (sound s) (holders s t) k (inMask s (holder s t) k) (not (released s (holder s t) k) || confirmed s (holder s t) k) 7
+confirmRefusal s t k = confirmRefusalTested (sound s) s t k
 
 unfoldable pub closeRefusal : Coordinator → ℕ → Option ℕ
-closeRefusal s t = jobRefusal (sound s) (holders s t) (allConfirmed s (holder s t)) (held s (holder s t))
+closeRefusal s t = closeRefusalTested (sound s) s t

@@ -1,14 +1,21 @@
 -- What the code reads of a state, told of the tables alone: inner functions are lent arrays and never see the state. Assumes nothing: these are definitions.
 use Prim.Native.Nat.{ℕ, _+_, _*_}
-use mathlib.Core.Bool.{Bool, not, _&&_, _||_}
+use mathlib.Core.Bool.{Bool, true, false, not, _&&_, _||_}
 use mathlib.Core.List.{List}
-use lib.Dec.{eqb}
+use lib.Dec.{eqb, ltb}
 use Rattle.loops.specs.Loop.{every}
 use Rattle.loops.specs.Sum.{tally}
 use Rattle.mask.specs.Member.{holds, within}
 use Rattle.mask.specs.Members.{gather}
 use Rattle.coordinator.specs.Limits.{jobs, databases}
 use Rattle.coordinator.specs.Views.{entry}
+
+-- the set at database k, and the ticket in slot j; beyond the last there is none
+unfoldable pub setAt : List ℕ → ℕ → ℕ
+setAt sets k = elim (ltb k databases) [ true ↦ entry sets k | false ↦ 0 ]
+
+unfoldable pub ticketAt : List ℕ → ℕ → ℕ
+ticketAt tickets j = elim (ltb j jobs) [ true ↦ entry tickets j | false ↦ 0 ]
 
 -- the steps at database k that are asked, unreleased, and may go
 unfoldable pub goingIn : List ℕ → ℕ → ℕ → ℕ → ℕ → ℕ

@@ -45,6 +45,11 @@ pub struct AfterConfirm {
 }
 
 // The tickets closed, in order, stand beside the answer; zeros after them.
+pub struct Closed {
+    pub answer: CloseAnswer,
+    pub tickets: [u16; Coordinator::JOBS],
+}
+
 pub struct AfterClose {
     pub answer: CloseAnswer,
     pub tickets: [u16; Coordinator::JOBS],

@@ -10,27 +10,59 @@ use numbers::Database;
 use numbers::Slot;
 use numbers::Ticket;
 ghost use mathlib.Core.Bool.{not, _||_};
+ghost use mathlib.Core.List.{List};
 ghost use mathlib.Core.Path.{_≡_};
-ghost use lib.ListN.{length};
+ghost use Prim.Native.Nat.{ℕ};
 ghost use Rattle.mask.specs.Member.{holds};
-ghost use Rattle.coordinator.specs.Limits.{databases};
-ghost use Rattle.coordinator.specs.Views.{entry};
-ghost use Rattle.coordinator.specs.Confirm.{afterConfirm};
+ghost use Rattle.coordinator.specs.declared.answers.AfterConfirm.{AfterConfirm};
+ghost use Rattle.coordinator.specs.State.{stateOf};
+ghost use Rattle.coordinator.specs.Confirm.{afterConfirm, afterConfirmTested};
 
-// Slot j's step at database k isn't released, or is confirmed already: it awaits no confirm.
-fn is_settled<'a>(
-    released: &'a [u32; Coordinator::DATABASES],
-    confirmed: &'a [u32; Coordinator::DATABASES],
-    k: Database,
-    j: Slot,
-) -> bool
-    requires { ⌜ (length (now released) ≡ databases) × (length (now confirmed) ≡ databases) ⌝ }
-    ensures { λ r. ⌜ r ≡ not (holds (entry (now (released .entry)) (k .0)) (j .0)) || holds (entry (now (confirmed .entry)) (k .0)) (j .0) ⌝ }
+// At a database, slot j's step isn't released, or is confirmed already: it awaits no confirm.
+fn is_settled(released: u32, confirmed: u32, j: Slot) -> bool
+    ensures { λ r. ⌜ r ≡ not (holds released (j .0)) || holds confirmed (j .0) ⌝ }
 {
-    if views::holds_at(released, k, j) {
-        return views::holds_at(confirmed, k, j);
+    if mask::slots::holds(released, j.0) {
+        return mask::slots::holds(confirmed, j.0);
     }
     true
+}
+
+// Marks the step confirmed, and releases the first of those at that database that may go then:
+// in place, on the tables that this reads or changes, given whether the state is sound.
+pub fn confirm_tested<'a>(
+    sound: bool,
+    tickets: &'a [u16; Coordinator::JOBS],
+    named: &'a [u32; Coordinator::DATABASES],
+    asked: &'a [u32; Coordinator::DATABASES],
+    released: &mut [u32; Coordinator::DATABASES],
+    confirmed: &mut [u32; Coordinator::DATABASES],
+    dependencies: &mut [u32; Coordinator::STEPS],
+    ticket: Ticket,
+    database: Database,
+) -> ConfirmAnswer
+    ensures { λ r. ⌜ ((held next : ℕ) (order : List ℕ) → _≡_ {A = AfterConfirm} (record { answer = r; state = stateOf (now (tickets .entry)) held order (now (named .entry)) (now (asked .entry)) (now (released .exit)) (now (confirmed .exit)) (now (dependencies .exit)) next }) (afterConfirmTested sound (stateOf (now (tickets .entry)) held order (now (named .entry)) (now (asked .entry)) (now (released .entry)) (now (confirmed .entry)) (now (dependencies .entry)) next) (ticket .0) (database .0))) ⌝ }
+{
+    let found = tables::holders::holders_of(tickets, named, ticket);
+    let slot = holder::holder(found);
+    let names = views::holds_at(named, database, slot);
+    let gone = views::at(released, database);
+    let settled = is_settled(gone, views::at(confirmed, database), slot);
+    let refused = refusal::of_step(sound, found, database, names, settled, 7);
+    if refused != 0 {
+        return ConfirmAnswer::Refused(refused);
+    }
+    let k = database.0 as usize;
+    release::mark(confirmed, database, slot);
+    let free = release::going_of(dependencies, k, asked[k], released[k], confirmed[k]);
+    if free == 0 {
+        return ConfirmAnswer::Nothing;
+    }
+    let first = release::first_of(free);
+    release::mark(released, database, first);
+    let later = mask::slots::less(named[k], released[k]);
+    release::lead_to(dependencies, database, first, later);
+    ConfirmAnswer::Released(views::ticket(tickets, first))
 }
 
 impl Coordinator {
@@ -38,40 +70,24 @@ impl Coordinator {
     pub fn confirm(mut self, ticket: Ticket, database: Database) -> AfterConfirm
         ensures { λ r. ⌜ r ≡ afterConfirm self (ticket .0) (database .0) ⌝ }
     {
-        let is_sound = tables::sound::all_sound(
+        let sound = self.is_sound();
+        let mut released = self.released;
+        let mut confirmed = self.confirmed;
+        let mut dependencies = self.dependencies;
+        let answer = confirm_tested(
+            sound,
             &self.tickets,
-            self.held,
-            &self.order,
             &self.named,
             &self.asked,
-            &self.released,
-            &self.confirmed,
-            &self.dependencies,
+            &mut released,
+            &mut confirmed,
+            &mut dependencies,
+            ticket,
+            database,
         );
-        let found = tables::holders::holders_of(&self.tickets, &self.named, ticket);
-        let slot = holder::holder(found);
-        let names = views::holds_at(&self.named, database, slot);
-        let settled = is_settled(&self.released, &self.confirmed, database, slot);
-        let refused = refusal::of_step(is_sound, found, database, names, settled, 7);
-        let mut answer = ConfirmAnswer::Refused(refused);
-        if refused == 0 {
-            answer = ConfirmAnswer::Nothing;
-            release::mark(&mut self.confirmed, database, slot);
-            let free = release::may_go_at(
-                &self.dependencies,
-                &self.asked,
-                &self.released,
-                &self.confirmed,
-                database,
-            );
-            if free != 0 {
-                let first = release::first_of(free);
-                answer = ConfirmAnswer::Released(views::ticket(&self.tickets, first));
-                release::mark(&mut self.released, database, first);
-                let later = release::waiting(&self.named, &self.released, database);
-                release::lead_to(&mut self.dependencies, database, first, later);
-            }
-        }
+        self.released = released;
+        self.confirmed = confirmed;
+        self.dependencies = dependencies;
         AfterConfirm {
             answer,
             state: self,

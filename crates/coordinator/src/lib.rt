@@ -1,15 +1,15 @@
 // The part between: decides for each step of each job whether it goes now or is held.
 pub mod answers;
-mod ask;
+pub mod ask;
 mod bound;
 mod cascade;
-mod close;
-mod confirm;
+pub mod close;
+pub mod confirm;
 mod count;
 mod enter;
 mod holder;
 mod may_close;
-mod open;
+pub mod open;
 mod order;
 mod refusal;
 mod release;

@@ -5,7 +5,7 @@ use numbers::Slot;
 ghost use mathlib.Core.Path.{_≡_};
 ghost use Prim.Native.Nat.{ℕ, _+_, _*_, _^_, _<_};
 ghost use Rattle.loops.specs.Sum.{tally};
-ghost use Rattle.mask.specs.Member.{less, within, lowest};
+ghost use Rattle.mask.specs.Member.{within, lowest};
 ghost use Rattle.coordinator.specs.Limits.{jobs, databases};
 ghost use Rattle.coordinator.specs.Views.{entry};
 ghost use Rattle.coordinator.specs.Change.{mark, leadTo};
@@ -19,18 +19,17 @@ fn all_confirmed(into: u32, confirmed: u32) -> bool
 }
 
 // Slot j's step at database k may go.
-pub(crate) fn may_go<'a>(
-    dependencies: &'a [u32; Coordinator::STEPS],
-    confirmed: &'a [u32; Coordinator::DATABASES],
+pub(crate) fn may_go(
+    dependencies: &[u32; Coordinator::STEPS],
     k: Database,
     j: Slot,
+    confirmed: u32,
 ) -> bool
     requires { ⌜ (k .0 < databases) × (j .0 < jobs) ⌝ }
-    ensures { λ r. ⌜ r ≡ within jobs (entry (now (dependencies .entry)) (k .0 * jobs + j .0)) (entry (now (confirmed .entry)) (k .0)) ⌝ }
+    ensures { λ r. ⌜ r ≡ within jobs (entry (now (dependencies .entry)) (k .0 * jobs + j .0)) confirmed ⌝ }
 {
-    let at = k.0 as usize;
-    let step = at * Coordinator::JOBS + j.0 as usize;
-    all_confirmed(dependencies[step], confirmed[at])
+    let step = k.0 as usize * Coordinator::JOBS + j.0 as usize;
+    all_confirmed(dependencies[step], confirmed)
 }
 
 // Slot j joins the set at database k.
@@ -41,19 +40,6 @@ pub(crate) fn mark(sets: &mut [u32; Coordinator::DATABASES], k: Database, j: Slo
     let at = k.0 as usize;
     let m = sets[at];
     sets[at] = m | 1 << j.0;
-}
-
-// The slots that name database k and whose step there isn't released.
-pub(crate) fn waiting<'a>(
-    named: &'a [u32; Coordinator::DATABASES],
-    released: &'a [u32; Coordinator::DATABASES],
-    k: Database,
-) -> u32
-    requires { ⌜ k .0 < databases ⌝ }
-    ensures { λ r. ⌜ r ≡ less jobs (entry (now (named .entry)) (k .0)) (entry (now (released .entry)) (k .0)) ⌝ }
-{
-    let at = k.0 as usize;
-    mask::slots::less(named[at], released[at])
 }
 
 // At database k, slot a goes before each of the later ones.
@@ -88,8 +74,8 @@ fn going(into: u32, confirmed: u32, j: usize) -> u32
     }
 }
 
-// All rows are read without a branch: that is faster than to pick those that wait.
-fn going_of(
+// The asked and unreleased steps at database k that may go. All rows are read without a branch: that is faster than to pick those that wait.
+pub(crate) fn going_of(
     dependencies: &[u32; Coordinator::STEPS],
     k: usize,
     asked: u32,
@@ -105,21 +91,6 @@ fn going_of(
         free = free | going(dependencies[first + j], confirmed, j);
     }
     mask::slots::less(asked, released) & free
-}
-
-// The asked and unreleased steps at database k that may go.
-pub(crate) fn may_go_at<'a>(
-    dependencies: &'a [u32; Coordinator::STEPS],
-    asked: &'a [u32; Coordinator::DATABASES],
-    released: &'a [u32; Coordinator::DATABASES],
-    confirmed: &'a [u32; Coordinator::DATABASES],
-    k: Database,
-) -> u32
-    requires { ⌜ k .0 < databases ⌝ }
-    ensures { λ r. ⌜ r ≡ goingIn (now (dependencies .entry)) (k .0) (entry (now (asked .entry)) (k .0)) (entry (now (released .entry)) (k .0)) (entry (now (confirmed .entry)) (k .0)) ⌝ }
-{
-    let at = k.0 as usize;
-    going_of(dependencies, at, asked[at], released[at], confirmed[at])
 }
 
 // Of those that may go, the one that goes: the lowest slot.

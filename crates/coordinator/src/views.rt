@@ -4,16 +4,15 @@ use numbers::Database;
 use numbers::Slot;
 use numbers::Ticket;
 ghost use mathlib.Core.Path.{_≡_};
-ghost use Prim.Native.Nat.{ℕ, _<_};
-ghost use lib.ListN.{length};
+ghost use Prim.Native.Nat.{_<_};
 ghost use Rattle.mask.specs.Member.{holds};
-ghost use Rattle.coordinator.specs.Limits.{jobs, databases};
+ghost use Rattle.coordinator.specs.Limits.{jobs};
 ghost use Rattle.coordinator.specs.Views.{entry};
+ghost use Rattle.coordinator.specs.Tables.{setAt};
 
 // The set at database k; beyond the last database there is none.
 pub(crate) fn at(sets: &[u32; Coordinator::DATABASES], k: Database) -> u32
-    requires { ⌜ length (now sets) ≡ databases ⌝ }
-    ensures { λ r. ⌜ r ≡ entry (now (sets .entry)) (k .0) ⌝ }
+    ensures { λ r. ⌜ r ≡ setAt (now (sets .entry)) (k .0) ⌝ }
 {
     let i = k.0 as usize;
     if i < Coordinator::DATABASES {
@@ -25,8 +24,7 @@ pub(crate) fn at(sets: &[u32; Coordinator::DATABASES], k: Database) -> u32
 
 // Whether the set at database k holds slot j.
 pub(crate) fn holds_at(sets: &[u32; Coordinator::DATABASES], k: Database, j: Slot) -> bool
-    requires { ⌜ length (now sets) ≡ databases ⌝ }
-    ensures { λ r. ⌜ r ≡ holds (entry (now (sets .entry)) (k .0)) (j .0) ⌝ }
+    ensures { λ r. ⌜ r ≡ holds (setAt (now (sets .entry)) (k .0)) (j .0) ⌝ }
 {
     mask::slots::holds(at(sets, k), j.0)
 }

@@ -6,11 +6,12 @@ use lib.ListN.{length, take}
 use Rattle.loops.specs.Table.{table}
 use Rattle.loops.proofs.Tables.{table-none, table-turn, table-filled}
 use Rattle.coordinator.specs.Views.{entry}
+use Rattle.coordinator.specs.Tables.{ticketAt}
 use Rattle.coordinator.proofs.tickets.held_tickets.Statement.{statement}
 use Rattle.coordinator.proofs.tickets.held_tickets.Tie as tie
 
 abbrev Inv-loop : tie.InvT-loop
-Inv-loop tickets order n held₀ i₀ held i = (i ≤ n) × (length held ≡ 32) × (take i held ≡ table i (λ k. entry tickets (entry order k)))
+Inv-loop tickets order n held₀ i₀ held i = (i ≤ n) × (length held ≡ 32) × (take i held ≡ table i (λ k. ticketAt tickets (entry order k)))
 
 abbrev μ-loop : tie.MeasureT-loop
 μ-loop tickets order n held₀ i₀ held i = n - i

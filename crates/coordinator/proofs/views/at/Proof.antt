@@ -1,6 +1,6 @@
-use mathlib.Core.Path.{sym}
-use lib.ListN.{List·getD-eq-default}
+use Rattle.coordinator.proofs.Reach.{set-below, set-beyond}
 use borrow.Author.Needs.{needs}
+use native.Mathlib.Omega.{arith}
 use Rattle.coordinator.proofs.views.at.Statement.{statement}
 use Rattle.coordinator.proofs.views.at.Tie as tie
 use Rattle.coordinator.proofs.views.at.Reads as reads
@@ -20,11 +20,11 @@ element-copy-out-result c = search needs
 
 -- src/views.rt:23:1
 returns : tie.Need-returns
-returns c = search needs
+returns c = set-below _ _ (c .before .if1 .taken)
 
 -- src/views.rt:23:1
 returns-2 : tie.Need-returns-2
-returns-2 c = sym (List·getD-eq-default (c .before .before .args .sets .now) 0 {n = c .before .before .args .k .0} (search needs))
+returns-2 c = set-beyond _ _ (omega (arith, c .if1 .left))
 
 pub at-spec : {M : Type 1} → statement M
 at-spec = tie.close (tie.spec cast-i mul-result element-copy-out-result returns returns-2)
