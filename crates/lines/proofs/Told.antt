@@ -15,10 +15,9 @@ use Rattle.coordinator.specs.Confirm.{afterConfirm}
 use Rattle.coordinator.specs.Close.{afterClose}
 use Rattle.coordinator.specs.Answer.{Values, closeValues}
 use Rattle.coordinator.specs.Call.{openJob, askStep, confirmStep, closeJob, play}
-use Rattle.lines.specs.declared.answered.Answered.{Answered}
 use Rattle.lines.specs.declared.said.Said.{Said}
 use Rattle.lines.specs.Said.{openSaid, askSaid, confirmSaid, closeSaid}
-use Rattle.lines.specs.Answered.{beside, told, answered}
+use Rattle.lines.specs.Answered.{Answered, beside, told, answered}
 
 pub open-told : (s : Coordinator) (mask : ℕ) (r : AfterOpen) (q : Said) → r ≡ afterOpen s mask → q ≡ openSaid (r .answer) → beside (r .state) q ≡ answered s (some (openJob mask))
 unfolding answered told play

@@ -4,8 +4,14 @@ use mathlib.Core.Option.{Option, none, some}
 use Rattle.coordinator.specs.declared.Coordinator.{Coordinator}
 use Rattle.coordinator.specs.Answer.{Values}
 use Rattle.coordinator.specs.Call.{Call, openJob, askStep, confirmStep, closeJob, Played, play}
-use Rattle.lines.specs.declared.answered.Answered.{Answered}
 use Rattle.lines.specs.declared.said.Said.{Said}
+
+-- the three numbers of a record's line after its index, and the state left
+pub record Answered : Type 0 where
+  pub state : Coordinator
+  pub refusal : ℕ
+  pub first : ℕ
+  pub second : ℕ
 
 -- the numbers said, beside the state left
 abbrev pub beside : Coordinator → Said → Answered

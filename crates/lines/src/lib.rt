@@ -3,9 +3,9 @@ mod answered;
 mod said;
 mod text;
 
-use answered::Answered;
 use answered::answer_record;
 use coordinator::Coordinator;
+use numbers::NumberMaker;
 use text::put_line;
 ghost use mathlib.Core.Path.{_≡_};
 ghost use Prim.Native.Nat.{_+_, _/_, _^_, _≤_, _<_};
@@ -50,28 +50,57 @@ fn play_all(s: Coordinator, index: u64, records: &[u8], out: &mut [u8]) -> Playe
     requires { ⌜ (index < 2 ^ 63) × (length (now records) / 4 < length (now out) / longest) ⌝ }
     ensures { λ r. ⌜ Counts (r .wrote) (now (out .exit)) × (_≡_ {A = Playing} (record { played = r; out = now (out .exit) }) (all s index (now (records .entry)) (now (out .entry)))) ⌝ }
 {
-    // The state stays inside the last answer: a variable of its own would be one more copy for every record.
-    let mut last = Answered {
-        state: s,
-        refusal: 0,
-        first: 0,
-        second: 0,
-    };
+    // A call leaves a state as sound as it was, so one test serves all the records; and they are played on these tables, not on copies of them.
+    let tested = s.is_sound();
+    let mut tickets = s.tickets;
+    let mut held = s.held;
+    let mut order = s.order;
+    let mut named = s.named;
+    let mut asked = s.asked;
+    let mut released = s.released;
+    let mut confirmed = s.confirmed;
+    let mut dependencies = s.dependencies;
+    let mut next = s.maker.next;
     let mut i = index;
     let mut at = 0;
     let mut w = 0;
     while 4 <= records.len() - at {
         let value = two_bytes(records, at + 2);
-        last = answer_record(last.state, records[at], records[at + 1], value);
-        w = put_line(i, last.refusal, last.first, last.second, out, w);
+        let said = answer_record(
+            tested,
+            &mut tickets,
+            &mut held,
+            &mut order,
+            &mut named,
+            &mut asked,
+            &mut released,
+            &mut confirmed,
+            &mut dependencies,
+            &mut next,
+            records[at],
+            records[at + 1],
+            value,
+        );
+        w = put_line(i, said.refusal, said.first, said.second, out, w);
         i += 1;
         at += 4;
     }
-    let state = last.state;
     if at < records.len() {
         w = put_line(i, LEFT_OVER, 0, 0, out, w);
         i += 1;
     }
+    let maker = NumberMaker { next };
+    let state = Coordinator {
+        tickets,
+        held,
+        order,
+        named,
+        asked,
+        released,
+        confirmed,
+        dependencies,
+        maker,
+    };
     Played {
         state,
         index: i,

@@ -1,0 +1,54 @@
+-- A record leaves a state as sound as it was: one test serves many records. Assumes nothing.
+use Prim.Native.Nat.{ℕ, _^_, _<_}
+use mathlib.Core.Bool.{Bool, true, false}
+use mathlib.Core.Option.{Option, none, some}
+use mathlib.Core.Path.{_≡_, refl, sym, ap, subst, _∙_}
+use lib.Dec.{eqb}
+use Rattle.coordinator.specs.declared.Coordinator.{Coordinator}
+use Rattle.coordinator.specs.Shape.{Shape}
+use Rattle.coordinator.specs.Test.{sound}
+use Rattle.coordinator.specs.Call.{Call, openJob, askStep, confirmStep, closeJob, play}
+use Rattle.soundness.specs.Kept.{MaskFits}
+use Rattle.soundness.proofs.Every.{test-stays}
+use Rattle.lines.specs.Record.{callOf}
+use Rattle.lines.specs.Answered.{Answered, told, answered}
+
+abbrev pub Fits : Option Call → Type 0
+Fits none = Unit {0}
+Fits (some c) = MaskFits c
+
+pub call-fits : (kind database value : ℕ) → value < 2 ^ 16 → Fits (callOf kind database value)
+unfolding callOf
+call-fits kind database value l = by (eqb kind 1) (eqb kind 2) (eqb kind 3) (eqb kind 4)
+  where
+    by : (a b c d : Bool)
+        → Fits (elim a [
+          | true ↦ some (openJob value)
+          | false ↦ elim b [
+            | true ↦ some (askStep value database)
+            | false ↦ elim c [ true ↦ some (confirmStep value database) | false ↦ elim d [ true ↦ some (closeJob value) | false ↦ none ] ]
+          ]
+        ])
+    by true b c d = l
+    by false true c d = tt
+    by false false true d = tt
+    by false false false true = tt
+    by false false false false = tt
+
+answered-stays : (s : Coordinator) → Shape s → (o : Option Call) → Fits o → Shape (answered s o .state) × (sound (answered s o .state) ≡ sound s)
+unfolding answered told
+answered-stays s h none fits = (h, refl)
+answered-stays s h (some (openJob mask)) fits = test-stays s h (openJob mask) fits
+answered-stays s h (some (askStep t k)) fits = test-stays s h (askStep t k) fits
+answered-stays s h (some (confirmStep t k)) fits = test-stays s h (confirmStep t k) fits
+answered-stays s h (some (closeJob t)) fits = test-stays s h (closeJob t) fits
+
+-- what is known between two records: b is what the test says of s
+abbrev pub Known : Bool → Coordinator → Type 0
+Known b s = (b ≡ sound s) × Shape s
+
+pub stays : (b : Bool) (s : Coordinator) (q : Answered) (kind database value : ℕ) → value < 2 ^ 16 → Known b s → q ≡ answered s (callOf kind database value) → Known b (q .state)
+stays b s q kind database value l (e, h) p =
+    let k = answered-stays s h (callOf kind database value) (call-fits kind database value l) in
+    let r : answered s (callOf kind database value) .state ≡ q .state = ap (λ (x : Answered). x .state) (sym p) in
+    (e ∙ sym (k .1) ∙ ap sound r, subst Shape r (k .0))
