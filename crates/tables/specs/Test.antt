@@ -54,6 +54,7 @@ unfoldable pub databaseSound : ℕ → List ℕ → List ℕ → List ℕ → Li
 databaseSound held named asked released confirmed dependencies k =
     stepsSound (entry named k) (entry asked k) (entry released k) (entry confirmed k) held (drop (k * jobs) dependencies)
 
+-- all of it, of the tables of a state
 unfoldable pub soundIn : List ℕ → ℕ → List ℕ → List ℕ → List ℕ → List ℕ → List ℕ → List ℕ → Bool
 soundIn tickets held order named asked released confirmed dependencies =
     let slots : ℕ = openIn named in

@@ -36,7 +36,7 @@ pub(crate) fn holders(tickets: &[u16; Slot::COUNT], slots: u32, t: Ticket) -> u3
     sharers(tickets, t.0) & slots
 }
 
-// The same, of the tables.
+// The same, where the open slots are not at hand.
 pub fn holders_of<'a>(
     tickets: &'a [u16; Slot::COUNT],
     named: &'a [u32; Database::COUNT],

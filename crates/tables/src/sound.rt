@@ -98,7 +98,7 @@ fn databases_sound<'a>(
     true
 }
 
-// All of it.
+// All of it, over the tables of a state.
 pub fn all_sound<'a>(
     tickets: &'a [u16; Slot::COUNT],
     held: u32,
