@@ -21,6 +21,7 @@ use Rattle.coordinator.specs.Close.{afterClose}
 use Rattle.coordinator.specs.Answer.{Values, refused, openValues, askValues, confirmValues, closeValues}
 use Rattle.coordinator.specs.Call.{Call, openJob, askStep, confirmStep, closeJob, Played, play}
 use Rattle.layout.specs.Put.{put}
+use Rattle.lines.proofs.Stays.{leftBy}
 use Rattle.boundary.specs.declared.row.Numbers.{Numbers}
 use Rattle.boundary.specs.Row.{numbersOf, rowOf, row}
 use Rattle.boundary.specs.Records.{answer, Answers}
@@ -97,3 +98,8 @@ as-call {s} {c} {d} {o} {at} {left} {r} e a = record {
   written = a .written ∙ ap (λ (x : Option Call). put o at (row (answer s x .values))) (sym e);
   state = a .state ∙ ap (λ (x : Option Call). answer s x .state) (sym e);
 }
+
+pub answer-left : (s : Coordinator) (c : Option Call) → answer s c .state ≡ leftBy s c
+unfolding answer
+answer-left s none = refl
+answer-left s (some c) = refl

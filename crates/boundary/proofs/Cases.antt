@@ -4,18 +4,18 @@ use mathlib.Core.Path.{_≡_, sym, ap, _∙_}
 use mathlib.Core.Bool.{true}
 use mathlib.Core.List.{List, []}
 use mathlib.Core.Option.{Option}
+use native.Mathlib.Omega.{arith}
 use borrow.Author.Tests.{eq-eqb, ne-eqb}
 use lib.ListN.{length}
 use Rattle.coordinator.specs.declared.Coordinator.{Coordinator}
 use Rattle.coordinator.specs.Fresh.{fresh}
 use Rattle.coordinator.specs.Bound.{mostMoves}
 use Rattle.coordinator.specs.Call.{Call}
-use Rattle.layout.proofs.Put.{put-all}
+use Rattle.layout.specs.Bytes.{pieces}
 use Rattle.boundary.specs.State.{stateSize, encoded, decoded}
 use Rattle.boundary.specs.Row.{rowSize, row}
-use Rattle.boundary.specs.Records.{answer, Answers, stateAfter, rows}
+use Rattle.boundary.specs.Records.{answer, recordAt, stateAfter, rowAt, rows}
 use Rattle.boundary.specs.Outcome.{Outcome, Written, outcome, playedAll, recordsPlayed, playedOne, called, started, movesAtMost}
-use Rattle.boundary.proofs.Written.{length-row}
 
 abbrev refused : List ℕ → List ℕ → Outcome
 refused state answers = record { code = 10; state = state; answers = answers }
@@ -57,13 +57,17 @@ module _ (state answers : List ℕ) where
     unfolding called outcome
     call-wrong-answer l h = rw (eq-eqb (length state) stateSize l, ne-eqb (length answers) rowSize h)
 
-    pub call-right : length state ≡ stateSize → length answers ≡ rowSize → (s t : Coordinator) (state₁ answers₁ : List ℕ) → s ≡ decoded state → Answers s c answers 0 answers₁ t → state₁ ≡ encoded t →
-        _≡_ {A = Outcome} (record { code = 0; state = state₁; answers = answers₁ }) (called c state answers)
-    unfolding called
-    call-right l h s t state₁ answers₁ es a e =
+    -- the call is played as the one record of a list
+    pub call-right : length state ≡ stateSize → length answers ≡ rowSize → (records : List ℕ) → length records ≡ 4 → recordAt records 0 ≡ c
+        → (s t : Coordinator) (state₁ answers₁ : List ℕ) → s ≡ decoded state
+        → (answers₁ ≡ rows s records (length records / 4)) × (t ≡ stateAfter s records (length records / 4)) → state₁ ≡ encoded t
+        → _≡_ {A = Outcome} (record { code = 0; state = state₁; answers = answers₁ }) (called c state answers)
+    unfolding called rows rowAt stateAfter pieces
+    call-right l h records four is s t state₁ answers₁ es p e =
+        let one : length records / 4 ≡ 1 = omega (arith, four) in
         rw (eq-eqb (length state) stateSize l, eq-eqb (length answers) rowSize h)
-        (taken (playedOne c) state answers s t state₁ answers₁ es (a .state)
-        (a .written ∙ put-all answers (row (answer s c .values)) (length-row (answer s c .values) ∙ sym h)) e)
+        (taken (playedOne c) state answers s t state₁ answers₁ es (p .1 ∙ ap (stateAfter s records) one ∙ ap (λ (x : Option Call). answer s x .state) is)
+        (p .0 ∙ ap (rows s records) one ∙ ap (λ (x : Option Call). row (answer s x .values)) is) e)
 
 module _ (first : ℕ) (state : List ℕ) where
   pub start-wrong : ¬ (length state ≡ stateSize) → refused state [] ≡ started first state

@@ -5,10 +5,11 @@ mod records;
 mod row;
 mod state;
 
+use bytes::put_two;
+use bytes::widened;
 use coordinator::Coordinator;
 use numbers::Ticket;
 use records::play_all;
-use records::record_row;
 use state::decode;
 use state::encode;
 ghost use mathlib.Core.Path.{_≡_};
@@ -58,7 +59,7 @@ pub extern "C" fn fresh_state(state: &mut [u8], first: u16) -> u8
     0
 }
 
-// One call from the state, its row written to the answer.
+// One call from the state, played as a record, its row written to the answer.
 fn call(state: &mut [u8], kind: u8, database: u8, value: u16, answer: &mut [u8]) -> u8
     ensures { λ r. ⌜ record { code = r; state = now (state .exit); answers = now (answer .exit) } ≡ called (callOf kind database value) (now (state .entry)) (now (answer .entry)) ⌝ }
 {
@@ -68,7 +69,11 @@ fn call(state: &mut [u8], kind: u8, database: u8, value: u16, answer: &mut [u8])
     if answer.len() != ROW_SIZE {
         return WRONG_LENGTH;
     }
-    let left = record_row(decode(state), kind, database, value, answer, 0);
+    let mut record = [0u8; 4];
+    record[0] = kind;
+    record[1] = database;
+    put_two(widened(value), &mut record, 2);
+    let left = play_all(decode(state), &record, answer);
     encode(left, state);
     0
 }

@@ -7,13 +7,19 @@ use crate::row::of_open;
 use crate::row::put_row;
 use crate::row::refused;
 use coordinator::Coordinator;
+use coordinator::ask::ask_tested;
+use coordinator::close::close_tested;
+use coordinator::confirm::confirm_tested;
+use coordinator::open::open_tested;
 use numbers::Database;
+use numbers::NumberMaker;
 use numbers::Ticket;
 ghost use mathlib.Core.Path.{_≡_};
-ghost use mathlib.Core.Option.{some};
 ghost use Prim.Native.Nat.{_+_, _*_, _/_, _≤_};
 ghost use lib.ListN.{length};
-ghost use Rattle.coordinator.specs.Call.{openJob, askStep, confirmStep, closeJob};
+ghost use Rattle.coordinator.specs.Limits.{jobs};
+ghost use Rattle.coordinator.specs.State.{stateOf};
+ghost use Rattle.coordinator.specs.Test.{sound};
 ghost use Rattle.lines.specs.Record.{callOf};
 ghost use Rattle.boundary.specs.Row.{rowSize};
 ghost use Rattle.boundary.specs.Records.{Answers, stateAfter, rows};
@@ -21,77 +27,91 @@ ghost use Rattle.boundary.specs.Records.{Answers, stateAfter, rows};
 // A kind that is no call.
 const UNKNOWN_KIND: u8 = 11;
 
-fn open_row(s: Coordinator, mask: u16, out: &mut [u8], at: usize) -> Coordinator
-    requires { ⌜ at + rowSize ≤ length (now out) ⌝ }
-    ensures { λ r. ⌜ Answers s (some (openJob mask)) (now (out .entry)) at (now (out .exit)) r ⌝ }
-{
-    let after = s.open(mask);
-    let tickets = [0u16; Coordinator::JOBS];
-    let answer = after.answer;
-    put_row(of_open(answer), &tickets, out, at);
-    after.state
-}
-
-fn ask_row(s: Coordinator, ticket: u16, database: u8, out: &mut [u8], at: usize) -> Coordinator
-    requires { ⌜ at + rowSize ≤ length (now out) ⌝ }
-    ensures { λ r. ⌜ Answers s (some (askStep ticket database)) (now (out .entry)) at (now (out .exit)) r ⌝ }
-{
-    let after = s.ask(Ticket(ticket), Database(database));
-    let tickets = [0u16; Coordinator::JOBS];
-    let answer = after.answer;
-    put_row(of_ask(answer), &tickets, out, at);
-    after.state
-}
-
-fn confirm_row(s: Coordinator, ticket: u16, database: u8, out: &mut [u8], at: usize) -> Coordinator
-    requires { ⌜ at + rowSize ≤ length (now out) ⌝ }
-    ensures { λ r. ⌜ Answers s (some (confirmStep ticket database)) (now (out .entry)) at (now (out .exit)) r ⌝ }
-{
-    let after = s.confirm(Ticket(ticket), Database(database));
-    let tickets = [0u16; Coordinator::JOBS];
-    let answer = after.answer;
-    put_row(of_confirm(answer), &tickets, out, at);
-    after.state
-}
-
-fn close_row(s: Coordinator, ticket: u16, out: &mut [u8], at: usize) -> Coordinator
-    requires { ⌜ at + rowSize ≤ length (now out) ⌝ }
-    ensures { λ r. ⌜ Answers s (some (closeJob ticket)) (now (out .entry)) at (now (out .exit)) r ⌝ }
-{
-    let after = s.close(Ticket(ticket));
-    let tickets = after.tickets;
-    let answer = after.answer;
-    put_row(of_close(answer), &tickets, out, at);
-    after.state
-}
-
-// Plays the record's call; a kind that is no call changes nothing.
-pub(crate) fn record_row(
-    s: Coordinator,
+// Plays the record's call on the tables of a state, which was tested, and writes its row; a kind that is no call changes nothing.
+fn record_row(
+    tested: bool,
+    tickets: &mut [u16; Coordinator::JOBS],
+    held: &mut u32,
+    order: &mut [u8; Coordinator::JOBS],
+    named: &mut [u32; Coordinator::DATABASES],
+    asked: &mut [u32; Coordinator::DATABASES],
+    released: &mut [u32; Coordinator::DATABASES],
+    confirmed: &mut [u32; Coordinator::DATABASES],
+    dependencies: &mut [u32; Coordinator::STEPS],
+    next: &mut u16,
     kind: u8,
     database: u8,
     value: u16,
     out: &mut [u8],
     at: usize,
-) -> Coordinator
-    requires { ⌜ at + rowSize ≤ length (now out) ⌝ }
-    ensures { λ r. ⌜ Answers s (callOf kind database value) (now (out .entry)) at (now (out .exit)) r ⌝ }
+)
+    requires { ⌜ (at + rowSize ≤ length (now out)) × (length (now tickets) ≡ jobs) × (tested ≡ sound (stateOf (now tickets) (now held) (now order) (now named) (now asked) (now released) (now confirmed) (now dependencies) (now next))) ⌝ }
+    ensures { λ _. ⌜ Answers (stateOf (now (tickets .entry)) (now (held .entry)) (now (order .entry)) (now (named .entry)) (now (asked .entry)) (now (released .entry)) (now (confirmed .entry)) (now (dependencies .entry)) (now (next .entry))) (callOf kind database value) (now (out .entry)) at (now (out .exit)) (stateOf (now (tickets .exit)) (now (held .exit)) (now (order .exit)) (now (named .exit)) (now (asked .exit)) (now (released .exit)) (now (confirmed .exit)) (now (dependencies .exit)) (now (next .exit))) ⌝ }
 {
+    let none = [0u16; Coordinator::JOBS];
     if kind == 1 {
-        return open_row(s, value, out, at);
+        let answer = open_tested(
+            tested,
+            tickets,
+            order,
+            named,
+            released,
+            dependencies,
+            next,
+            value,
+        );
+        put_row(of_open(answer), &none, out, at);
+        return;
     }
     if kind == 2 {
-        return ask_row(s, value, database, out, at);
+        let answer = ask_tested(
+            tested,
+            tickets,
+            named,
+            asked,
+            released,
+            confirmed,
+            dependencies,
+            Ticket(value),
+            Database(database),
+        );
+        put_row(of_ask(answer), &none, out, at);
+        return;
     }
     if kind == 3 {
-        return confirm_row(s, value, database, out, at);
+        let answer = confirm_tested(
+            tested,
+            tickets,
+            named,
+            asked,
+            released,
+            confirmed,
+            dependencies,
+            Ticket(value),
+            Database(database),
+        );
+        put_row(of_confirm(answer), &none, out, at);
+        return;
     }
     if kind == 4 {
-        return close_row(s, value, out, at);
+        let closed = close_tested(
+            tested,
+            tickets,
+            held,
+            order,
+            named,
+            asked,
+            released,
+            confirmed,
+            dependencies,
+            Ticket(value),
+        );
+        let answer = closed.answer;
+        let given_back = closed.tickets;
+        put_row(of_close(answer), &given_back, out, at);
+        return;
     }
-    let tickets = [0u16; Coordinator::JOBS];
-    put_row(refused(UNKNOWN_KIND), &tickets, out, at);
-    s
+    put_row(refused(UNKNOWN_KIND), &none, out, at);
 }
 
 // Plays whole records, and writes a row for each.
@@ -99,10 +119,47 @@ pub(crate) fn play_all(s: Coordinator, records: &[u8], out: &mut [u8]) -> Coordi
     requires { ⌜ length (now out) ≡ rowSize * (length (now records) / 4) ⌝ }
     ensures { λ r. ⌜ (now (out .exit) ≡ rows s (now (records .entry)) (length (now (records .entry)) / 4)) × (r ≡ stateAfter s (now (records .entry)) (length (now (records .entry)) / 4)) ⌝ }
 {
-    let mut t = s;
+    // A call leaves a state as sound as it was, so one test serves all the records; and they are played on these tables, not on copies of them.
+    let tested = s.is_sound();
+    let mut tickets = s.tickets;
+    let mut held = s.held;
+    let mut order = s.order;
+    let mut named = s.named;
+    let mut asked = s.asked;
+    let mut released = s.released;
+    let mut confirmed = s.confirmed;
+    let mut dependencies = s.dependencies;
+    let mut next = s.maker.next;
     for i in 0..records.len() / 4 {
         let value = get_two(records, 4 * i + 2);
-        t = record_row(t, records[4 * i], records[4 * i + 1], value, out, 80 * i);
+        record_row(
+            tested,
+            &mut tickets,
+            &mut held,
+            &mut order,
+            &mut named,
+            &mut asked,
+            &mut released,
+            &mut confirmed,
+            &mut dependencies,
+            &mut next,
+            records[4 * i],
+            records[4 * i + 1],
+            value,
+            out,
+            80 * i,
+        );
     }
-    t
+    let maker = NumberMaker { next };
+    Coordinator {
+        tickets,
+        held,
+        order,
+        named,
+        asked,
+        released,
+        confirmed,
+        dependencies,
+        maker,
+    }
 }

@@ -35,20 +35,32 @@ call-fits kind database value l = by (eqb kind 1) (eqb kind 2) (eqb kind 3) (eqb
     by false false false true = tt
     by false false false false = tt
 
-answered-stays : (s : Coordinator) → Shape s → (o : Option Call) → Fits o → Shape (answered s o .state) × (sound (answered s o .state) ≡ sound s)
-unfolding answered told
-answered-stays s h none fits = (h, refl)
-answered-stays s h (some (openJob mask)) fits = test-stays s h (openJob mask) fits
-answered-stays s h (some (askStep t k)) fits = test-stays s h (askStep t k) fits
-answered-stays s h (some (confirmStep t k)) fits = test-stays s h (confirmStep t k) fits
-answered-stays s h (some (closeJob t)) fits = test-stays s h (closeJob t) fits
+-- the state that a call leaves; what is no call leaves it as it was
+abbrev pub leftBy : Coordinator → Option Call → Coordinator
+leftBy s none = s
+leftBy s (some c) = play s c .state
+
+left-stays : (s : Coordinator) → Shape s → (o : Option Call) → Fits o → Shape (leftBy s o) × (sound (leftBy s o) ≡ sound s)
+left-stays s h none fits = (h, refl)
+left-stays s h (some c) fits = test-stays s h c fits
 
 -- what is known between two records: b is what the test says of s
 abbrev pub Known : Bool → Coordinator → Type 0
 Known b s = (b ≡ sound s) × Shape s
 
+pub known-on : (b : Bool) (s r : Coordinator) (kind database value : ℕ) → value < 2 ^ 16 → Known b s → r ≡ leftBy s (callOf kind database value) → Known b r
+known-on b s r kind database value l (e, h) p =
+    let k = left-stays s h (callOf kind database value) (call-fits kind database value l) in
+    (e ∙ sym (k .1) ∙ ap sound (sym p), subst Shape (sym p) (k .0))
+
+answered-left : (s : Coordinator) (o : Option Call) → answered s o .state ≡ leftBy s o
+unfolding answered told
+answered-left s none = refl
+answered-left s (some (openJob mask)) = refl
+answered-left s (some (askStep t k)) = refl
+answered-left s (some (confirmStep t k)) = refl
+answered-left s (some (closeJob t)) = refl
+
 pub stays : (b : Bool) (s : Coordinator) (q : Answered) (kind database value : ℕ) → value < 2 ^ 16 → Known b s → q ≡ answered s (callOf kind database value) → Known b (q .state)
-stays b s q kind database value l (e, h) p =
-    let k = answered-stays s h (callOf kind database value) (call-fits kind database value l) in
-    let r : answered s (callOf kind database value) .state ≡ q .state = ap (λ (x : Answered). x .state) (sym p) in
-    (e ∙ sym (k .1) ∙ ap sound r, subst Shape r (k .0))
+stays b s q kind database value l k p =
+    known-on b s (q .state) kind database value l k (ap (λ (x : Answered). x .state) p ∙ answered-left s (callOf kind database value))
