@@ -1,93 +1,139 @@
--- The moves as the code makes them are those that the definition makes. Assumes nothing.
-use Prim.Native.Nat.{ℕ, _+_, _*_, _<_}
-use native.Mathlib.Numerals.{add-one}
-use mathlib.Core.Bool.{true, false, not, _&&_}
+-- The moves: a closing move, and a forward move with the visit and the return. Assumes nothing.
+use Prim.Native.Nat.{ℕ, _+_, _*_, _%_, _^_, _<_}
+use native.Mathlib.Omega.{arith}
+use mathlib.Core.Bool.{true, false}
 use mathlib.Core.List.{List}
-use mathlib.Core.Path.{_≡_, refl, sym, ap, _∙_}
-use borrow.Author.Tests.{eq-eqb, ne-eqb}
-use lib.Dec.{eqb}
-use lib.ListN.{getD}
-use Rattle.loops.specs.Loop.{choice}
-use Rattle.loops.proofs.Rules.{guard-yes, guard-no, choice-yes, choice-no, guard-rule}
+use mathlib.Core.Logic.{_⊎_, inl, inr}
+use mathlib.Core.Path.{_≡_, ap, _∙_}
+use borrow.Author.Tests.{ne-eqb}
+use lib.Bits.{bitOr}
+use lib.ListN.{getD, set, length-set}
 use Rattle.mask.specs.Member.{digit, holds}
-use Rattle.mask.proofs.Holds.{holds-of}
 use Rattle.mask.proofs.Words.{or-shl}
-use Rattle.walks.specs.Search.{Seek, markReached, markFound, back, closing, forward, opens, choose, run}
+use Rattle.walks.specs.Marks.{count}
+use Rattle.walks.specs.Walk.{Link, Reach, WalkEnd}
+use Rattle.walks.proofs.Walk.{go-on, end-at}
+use Rattle.walks.proofs.Marking.{count-le, put-same, put-more, put-only, count-put}
+use Rattle.walks.proofs.Next.{Hit}
+use Rattle.search.specs.Limits.{jobs}
 use Rattle.search.specs.Search.{graph}
-use Rattle.search.specs.Visit.{marks, seek, visitedJob}
-use Rattle.search.proofs.Here.{Here, marked, visitedSlot}
+use Rattle.search.specs.Visit.{marks, SoFar, soFar, unmarked, Ready, Standing, Taken, Onward, JobVisited}
 
-pub seek-is : {a b c d : List ℕ} {m k : ℕ} → a ≡ b → c ≡ d → m ≡ k → seek a c m ≡ seek b d k
-seek-is p q r = rw (p, q, r)
+-- slot w comes into the set at u, as the code has it
+abbrev pub putIn : List ℕ → ℕ → ℕ → List ℕ
+putIn sets u w = set sets u (bitOr (getD sets u 0) (1 * 2 ^ w % 2 ^ 32))
 
--- closing, forward and return moves
+put-is : (sets : List ℕ) (u w : ℕ) → w < jobs → putIn sets u w ≡ marks .put sets w u
+put-is sets u w l = rw (or-shl 32 (getD sets u 0) w l)
 
-found-is : (reached found : List ℕ) (moves v u : ℕ) → v < 32 → seek reached (marked found u v) (moves + 1) ≡ markFound marks v u (seek reached found moves)
-unfolding markFound
-found-is reached found moves v u h = rw (or-shl 32 (getD found u 0) v h, add-one)
+pub so-far-is : {a b c d e f : List ℕ} {m k : ℕ} → a ≡ b → c ≡ d → e ≡ f → m ≡ k → soFar a c e m ≡ soFar b d f k
+so-far-is p q r z = rw (p, q, r, z)
 
-pub reached-is : (reached found : List ℕ) (moves w u : ℕ) → w < 32 → seek (marked reached u w) found (moves + 1) ≡ markReached marks w u (seek reached found moves)
-unfolding markReached
-reached-is reached found moves w u h = rw (or-shl 32 (getD reached u 0) w h, add-one)
+-- from v through u to w
 
-back-is : (reached found : List ℕ) (moves : ℕ) → seek reached found (moves + 1) ≡ back marks (seek reached found moves)
-unfolding back
-back-is reached found moves = rw add-one
+module _ {named dependencies : List ℕ} {n v u : ℕ} (at : Standing named dependencies n v u) {s : SoFar} (h : Ready named dependencies n s) {w : ℕ} where
+  module _ (new : w ≡ n) (l : Link (graph named dependencies n) u v w) (absent : ¬ (digit (getD (s .found) u 0) v ≡ 1)) where
+    closed : SoFar
+    closed = soFar (s .looked) (s .reached) (marks .put (s .found) v u) (s .moves + 1)
 
--- one law for each way that the code can take at a slot
+    one-found : count marks (marks .put (s .found) v u) ≡ count marks (s .found) + 1
+    one-found = count-put marks (s .found) v u (h .found-sets) (at .job) (at .database) (ne-eqb (digit (getD (s .found) u 0) v) 1 absent)
 
-module _ {named dependencies : List ℕ} {n v u w : ℕ} {reached found : List ℕ} {moves : ℕ} (at : Here named dependencies n v u w reached found moves) where
-  abbrev here : Seek marks
-  here = seek reached found moves
+    closed-on : Onward named dependencies n s closed
+    unfolding closed
+    closed-on = record {
+      ready = record {
+        looked-sets = h .looked-sets;
+        reached-sets = h .reached-sets;
+        found-sets = length-set (s .found) u _ ∙ h .found-sets;
+        sound = record { walks = h .sound .walks; ends = λ a b e. by a b (put-only marks (s .found) v u (h .found-sets) (at .job) (at .database) a b e) };
+        fits = omega (arith, h .fits, one-found);
+      };
+      looked = λ a b e. e;
+      reached = λ a b e. e;
+      found = put-more marks (s .found) v u (h .found-sets) (at .job) (at .database);
+      through = λ a b e. inl e;
+      taken = λ a b e. inl e;
+      tally = omega (arith, one-found);
+    }
+      where
+        by : (a b : ℕ) → ((a ≡ v) × (b ≡ u)) ⊎ (marks .has (s .found) a b ≡ true) → WalkEnd (graph named dependencies n) a b
+        by a b (inl e) = rw (e .0, e .1) (end-at (graph named dependencies n) v (at .via) u w (at .turns) l new (at .arrived))
+        by a b (inr e) = h .sound .ends a b e
 
-  pub slot-held : digit (getD dependencies (u * 32 + w) 0) v ≡ 1 → here ≡ visitedSlot named dependencies n v u w here
-  unfolding choose
-  slot-held d = sym (guard-no (opens (graph named dependencies n) u v w) _ here (rw (at .candidate, holds-of (getD dependencies (u * 32 + w) 0) v d)))
+    pub closing-on : Onward named dependencies n s (soFar (s .looked) (s .reached) (putIn (s .found) u v) (s .moves + 1))
+    unfolding closed
+    closing-on = rw (put-is (s .found) u v (at .job)) closed-on
 
-  module _ (d : ¬ (digit (getD dependencies (u * 32 + w) 0) v ≡ 1)) where
-    opened : visitedSlot named dependencies n v u w here
-        ≡ choice (eqb w n) (closing marks v u) (forward marks (run (graph named dependencies n) marks) w u) here
-    unfolding choose
-    opened = guard-yes (opens (graph named dependencies n) u v w) _ here (rw (at .candidate, ne-eqb _ 1 d))
+    pub closing-hit : Hit (graph named dependencies n) marks (s .reached) (putIn (s .found) u v) v u w
+    closing-hit = rw (put-is (s .found) u v (at .job)) (record { closes = λ e. put-same marks (s .found) v u (h .found-sets) (at .job) (at .database); enters = λ ne. absurd (ne new) })
 
-    pub slot-found : w ≡ n → digit (getD found u 0) v ≡ 1 → here ≡ visitedSlot named dependencies n v u w here
-    unfolding closing
-    slot-found e f = sym (opened ∙ choice-yes (eqb w n) _ _ here (eq-eqb w n e) ∙ guard-no _ _ here (rw (holds-of (getD found u 0) v f)))
+  module _ (old : ¬ (w ≡ n)) (l : Link (graph named dependencies n) u v w) (absent : marks .has (s .reached) w u ≡ false) where
+    -- w is marked
+    abbrev pub next : SoFar
+    next = soFar (s .looked) (putIn (s .reached) u w) (s .found) (s .moves + 1)
 
-    pub slot-closes : w ≡ n → ¬ (digit (getD found u 0) v ≡ 1) → seek reached (marked found u v) (moves + 1) ≡ visitedSlot named dependencies n v u w here
-    unfolding closing
-    slot-closes e f =
-        found-is reached found moves v u (at .from)
-        ∙ sym (opened ∙ choice-yes (eqb w n) _ _ here (eq-eqb w n e) ∙ guard-yes _ _ here (rw (ne-eqb (digit (getD found u 0) v) 1 f)))
+    is : putIn (s .reached) u w ≡ marks .put (s .reached) w u
+    is = put-is (s .reached) u w (l .job)
 
-    pub slot-reached : ¬ (w ≡ n) → digit (getD reached u 0) w ≡ 1 → here ≡ visitedSlot named dependencies n v u w here
-    unfolding forward
-    slot-reached e f = sym (opened ∙ choice-no (eqb w n) _ _ here (ne-eqb w n e) ∙ guard-no _ _ here (rw (holds-of (getD reached u 0) w f)))
+    one-reached : count marks (putIn (s .reached) u w) ≡ count marks (s .reached) + 1
+    one-reached = ap (count marks) is ∙ count-put marks (s .reached) w u (h .reached-sets) (l .job) (at .database) absent
 
-    pub slot-forward : ¬ (w ≡ n) → ¬ (digit (getD reached u 0) w ≡ 1)
-        → (R F : List ℕ) (r : ℕ) → seek R F r ≡ visitedJob named dependencies n w u (seek (marked reached u w) found (moves + 1))
-        → seek R F (r + 1) ≡ visitedSlot named dependencies n v u w here
-    unfolding forward
-    slot-forward e f R F r q =
-        back-is R F r
-        ∙ ap (back marks) (q ∙ ap (run (graph named dependencies n) marks w u) (reached-is reached found moves w u (at .slot)))
-        ∙ sym (opened ∙ choice-no (eqb w n) _ _ here (ne-eqb w n e) ∙ guard-yes _ _ here (rw (ne-eqb (digit (getD reached u 0) w) 1 f)))
+    only : (a b : ℕ) → marks .has (putIn (s .reached) u w) a b ≡ true → ((a ≡ w) × (b ≡ u)) ⊎ (marks .has (s .reached) a b ≡ true)
+    only a b e = put-only marks (s .reached) w u (h .reached-sets) (l .job) (at .database) a b (rw is at e)
 
--- slots that the code does not look at: one that is no candidate, one that is reached, and the new job where that dependency is found
+    more : (a b : ℕ) → marks .has (s .reached) a b ≡ true → marks .has (putIn (s .reached) u w) a b ≡ true
+    more a b e = rw is (put-more marks (s .reached) w u (h .reached-sets) (l .job) (at .database) a b e)
 
-module _ (named dependencies : List ℕ) (n v u w : ℕ) (t : Seek marks) where
-  pub slot-other : not (eqb w v) && holds (getD named u 0) w ≡ false → visitedSlot named dependencies n v u w t ≡ t
-  unfolding choose
-  slot-other e = guard-no (opens (graph named dependencies n) u v w) _ t (rw e)
+    pub walk-on : Reach (graph named dependencies n) w u
+    walk-on = go-on (graph named dependencies n) v (at .via) u w (at .turns) l old (at .arrived)
 
-  pub slot-known : ¬ (w ≡ n) → holds (getD (t .reached) u 0) w ≡ true → visitedSlot named dependencies n v u w t ≡ t
-  unfolding choose forward
-  slot-known ne e =
-      guard-rule (λ (r : Seek marks). r ≡ t) (opens (graph named dependencies n) u v w) _ t
-      (λ p. choice-no (eqb w n) _ _ t (ne-eqb w n ne) ∙ guard-no _ _ t (rw e)) (λ p. refl)
+    pub next-ready : Ready named dependencies n next
+    next-ready = record {
+      looked-sets = h .looked-sets;
+      reached-sets = length-set (s .reached) u _ ∙ h .reached-sets;
+      found-sets = h .found-sets;
+      sound = record { walks = λ a b e. by a b (only a b e); ends = h .sound .ends };
+      fits = omega (arith, h .fits, one-reached);
+    }
+      where
+        by : (a b : ℕ) → ((a ≡ w) × (b ≡ u)) ⊎ (marks .has (s .reached) a b ≡ true) → Reach (graph named dependencies n) a b
+        by a b (inl e) = rw (e .0, e .1) walk-on
+        by a b (inr e) = h .sound .walks a b e
 
-  pub slot-closed : w ≡ n → holds (getD (t .found) u 0) v ≡ true → visitedSlot named dependencies n v u w t ≡ t
-  unfolding choose closing
-  slot-closed is e =
-      guard-rule (λ (r : Seek marks). r ≡ t) (opens (graph named dependencies n) u v w) _ t
-      (λ p. choice-yes (eqb w n) _ _ t (eq-eqb w n is) ∙ guard-no _ _ t (rw e)) (λ p. refl)
+    pub next-falls : unmarked (putIn (s .reached) u w) < unmarked (s .reached)
+    next-falls = omega (arith, one-reached, count-le marks (putIn (s .reached) u w))
+
+    -- the search goes on from there, comes to r, and returns
+
+    module _ {r : SoFar} (k : JobVisited named dependencies n w u next r) where
+      pub forward-on : Onward named dependencies n s (soFar (r .looked) (r .reached) (r .found) (r .moves + 1))
+      forward-on = record {
+        ready = record {
+          looked-sets = k .onward .ready .looked-sets;
+          reached-sets = k .onward .ready .reached-sets;
+          found-sets = k .onward .ready .found-sets;
+          sound = k .onward .ready .sound;
+          fits = omega (arith, k .onward .tally, h .fits, one-reached);
+        };
+        looked = k .onward .looked;
+        reached = λ a b e. k .onward .reached a b (more a b e);
+        found = k .onward .found;
+        through = k .onward .through;
+        taken = λ a b e. stood a b (k .onward .taken a b e);
+        tally = omega (arith, k .onward .tally, one-reached);
+      }
+        where
+          this : (a b : ℕ) → ((a ≡ w) × (b ≡ u)) ⊎ (marks .has (s .reached) a b ≡ true) → (marks .has (s .reached) a b ≡ true) ⊎ Taken named (r .looked) a b
+          this a b (inl e) = inr (rw (e .0, e .1) (k .taken))
+          this a b (inr e) = inl e
+
+          stood : (a b : ℕ) → (marks .has (putIn (s .reached) u w) a b ≡ true) ⊎ Taken named (r .looked) a b → (marks .has (s .reached) a b ≡ true) ⊎ Taken named (r .looked) a b
+          stood a b (inl e) = this a b (only a b e)
+          stood a b (inr t) = inr t
+
+      pub forward-hit : Hit (graph named dependencies n) marks (r .reached) (r .found) v u w
+      forward-hit = record {
+        closes = λ e. absurd (old e);
+        enters = λ ne. k .onward .reached w u (rw is (put-same marks (s .reached) w u (h .reached-sets) (l .job) (at .database)));
+      }

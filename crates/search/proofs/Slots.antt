@@ -1,97 +1,165 @@
--- The loop of visit_database: the candidates at a database, walked from low to high. Assumes nothing.
-use Prim.Native.Nat.{ℕ, _<_}
+-- The loop of visit_database: the slots to try at a database, walked from low to high. Assumes nothing.
+use Prim.Native.Nat.{ℕ, _+_, _*_, _^_, _<_, _≤_}
+use native.Mathlib.Nat.{lt-of-le-of-lt, lt-of-lt-of-le}
+use native.Mathlib.Omega.{arith}
 use mathlib.Core.Bool.{Bool, true, false, not, _&&_}
 use mathlib.Core.List.{List}
-use mathlib.Core.Path.{_≡_, refl, sym, _∙_}
-use borrow.Author.Tests.{eqb-true, eqb-false}
+use mathlib.Core.Logic.{_⊎_, inl, inr}
+use mathlib.Core.Path.{_≡_, refl, sym, ap, _∙_}
+use borrow.Author.Tests.{eqb-true, eqb-false, ne-eqb, not-true}
 use lib.Dec.{eqb}
 use lib.ListN.{getD}
-use Rattle.loops.proofs.Tests.{both, and-left}
-use Rattle.mask.specs.Member.{holds, excluding, lowest}
+use Rattle.loops.proofs.Tests.{both, and-left, and-right}
+use Rattle.mask.specs.Member.{digit, holds, excluding, lowest}
 use Rattle.mask.specs.Lowest.{Lowest}
-use Rattle.mask.proofs.Holds.{holds-of}
-use Rattle.mask.proofs.Walking.{Left, left-start, left-lowest, left-rest, left-falls, left-done, over-is-set}
-use Rattle.walks.specs.Walk.{Graph}
-use Rattle.walks.specs.Search.{Seek, choose, across, run}
+use Rattle.mask.proofs.Holds.{holds-of, holds-below, holds-none, holds-excluding}
+use Rattle.mask.proofs.Lowest.{trailing-lowest, lowest-holds}
+use Rattle.mask.proofs.Walking.{rest-falls}
+use Rattle.walks.specs.Walk.{Link}
+use Rattle.walks.proofs.Walk.{reach-not-new}
+use Rattle.walks.proofs.Next.{Hit}
+use Rattle.search.specs.Limits.{jobs}
 use Rattle.search.specs.Search.{graph}
-use Rattle.search.specs.Visit.{marks, Ready, doneWith, Candidates, visitedDatabase}
-use Rattle.search.proofs.Here.{Here, visitedSlot}
-use Rattle.search.proofs.Moves.{slot-other, slot-known, slot-closed}
-use Rattle.search.proofs.Room.{Kept, kept-refl, kept-trans, next-kept, slot-next}
+use Rattle.search.specs.Visit.{marks, SoFar, soFar, unmarked, Ready, Arrived, Standing, Onward, JobVisited, DatabaseVisited, Others}
+use Rattle.search.proofs.Onward.{hit-on, unmarked-le, onward-refl, onward-then}
+use Rattle.search.proofs.Moves.{putIn, closing-on, closing-hit, walk-on, next-ready, next-falls, forward-on, forward-hit}
 
--- what visit_database asks
-abbrev Asked : List ℕ → ℕ → ℕ → ℕ → Seek marks → Type 0
-Asked named n v u s = (n < 32) × (v < 32) × (u < 16) × (holds (getD named u 0) v ≡ true) × Ready s
+-- a slot to try: it names u, it is not v, and it is not reached through u
+pub record Fresh (named reached : List ℕ) (v u w : ℕ) : Type 0 where
+  pub names : holds (getD named u 0) w ≡ true
+  pub differs : ¬ (w ≡ v)
+  pub absent : marks .has reached w u ≡ false
 
--- m is left of the candidates m₀, and t is come to from s
-pub record AtSlots (named dependencies : List ℕ) (n v u m₀ : ℕ) (s t : Seek marks) (m : ℕ) : Type 0 where
-  pub left : Left (choose (graph named dependencies n) marks (run (graph named dependencies n) marks) v u) 32 m₀ s m t
-  pub kept : Kept s t
+-- m is left to try, and t is come to from s
+pub record AtSlots (named dependencies : List ℕ) (n v u : ℕ) (s t : SoFar) (m : ℕ) : Type 0 where
+  pub onward : Onward named dependencies n s t
+  pub below : m < 2 ^ jobs
+  pub fresh : (w : ℕ) → holds m w ≡ true → Fresh named (t .reached) v u w
+  pub left : (w : ℕ) → Link (graph named dependencies n) u v w → (holds m w ≡ true) ⊎ Hit (graph named dependencies n) marks (t .reached) (t .found) v u w
 
-pub slots-start : (named dependencies : List ℕ) (n v u m₀ : ℕ) (s : Seek marks) → Ready s → AtSlots named dependencies n v u m₀ s s m₀
-slots-start named dependencies n v u m₀ s h = record { left = left-start _ 32 m₀ s; kept = kept-refl h }
+-- a turn at w comes from t to r
+pub record Turned (named dependencies : List ℕ) (n v u w : ℕ) (t r : SoFar) : Type 0 where
+  pub onward : Onward named dependencies n t r
+  pub hit : Link (graph named dependencies n) u v w → Hit (graph named dependencies n) marks (r .reached) (r .found) v u w
 
-module _ {named dependencies : List ℕ} {n v u m₀ : ℕ} {s t : Seek marks} {m : ℕ} (ask : Asked named n v u s)
-    (o : Candidates (getD named u 0) (getD (s .reached) u 0) (getD (s .found) u 0) n v m₀) (at : AtSlots named dependencies n v u m₀ s t m) where
-  abbrev G : Graph
-  G = graph named dependencies n
+pub turned-is : {named dependencies : List ℕ} {n v u w : ℕ} {t r z : SoFar} → z ≡ r → Turned named dependencies n v u w t r → Turned named dependencies n v u w t z
+turned-is e k = rw e k
 
+module _ {all reached v m : ℕ} (o : Others all reached v m) (w : ℕ) (e : holds m w ≡ true) where
+  tried : (not (eqb w v) && holds all w) && not (holds reached w) ≡ true
+  tried = sym (o .members w (holds-below jobs m w (o .below) e)) ∙ e
+
+  of-all : holds all w ≡ true
+  of-all = and-right (not (eqb w v)) (holds all w) (and-left _ (not (holds reached w)) tried)
+
+  not-own : ¬ (w ≡ v)
+  not-own = eqb-false w v (not-true (eqb w v) (and-left (not (eqb w v)) (holds all w) (and-left _ (not (holds reached w)) tried)))
+
+  unreached : holds reached w ≡ false
+  unreached = not-true (holds reached w) (and-right (not (eqb w v) && holds all w) (not (holds reached w)) tried)
+
+-- what is not to try any more is reached: the new job never is
+try-or-hit : {named dependencies : List ℕ} {n v u all m : ℕ} {t : SoFar} → Ready named dependencies n t → Others all (getD (t .reached) u 0) v m
+    → (w : ℕ) → w < jobs → ¬ (w ≡ v) → holds all w ≡ true → (holds m w ≡ true) ⊎ Hit (graph named dependencies n) marks (t .reached) (t .found) v u w
+try-or-hit {named} {dependencies} {n} {v} {u} {all} {m} {t} h o w l ne e = by (holds (getD (t .reached) u 0) w) refl
+  where
+    by : (b : Bool) → holds (getD (t .reached) u 0) w ≡ b → (holds m w ≡ true) ⊎ Hit (graph named dependencies n) marks (t .reached) (t .found) v u w
+    by true p = inr (record { closes = λ q. absurd (reach-not-new (h .sound .walks w u p) q); enters = λ q. p })
+    by false p = inl (o .members w l ∙ rw (p, e, ne-eqb w v ne))
+
+pub slots-start : {named dependencies : List ℕ} {n v u m : ℕ} {s : SoFar} → Ready named dependencies n s → Others (getD named u 0) (getD (s .reached) u 0) v m
+    → AtSlots named dependencies n v u s s m
+slots-start h o = record {
+  onward = onward-refl h;
+  below = o .below;
+  fresh = λ w e. record { names = of-all o w e; differs = not-own o w e; absent = unreached o w e };
+  left = λ w l. try-or-hit h o w (l .job) (l .differ) (l .enters);
+}
+
+module _ {named dependencies : List ℕ} {n v u : ℕ} {s t : SoFar} {m : ℕ} (at : AtSlots named dependencies n v u s t m) where
   -- a turn: w is the lowest of those left
 
-  module _ (ne : ¬ (m ≡ 0)) {w : ℕ} (e : w ≡ lowest 32 m) where
-    low : Lowest 32 m w
-    low = left-lowest _ 32 m₀ s m w t (o .below) ne (at .left) e
+  module _ (ne : ¬ (m ≡ 0)) {w : ℕ} (e : w ≡ lowest jobs m) where
+    low : Lowest jobs m w
+    low = rw e (trailing-lowest jobs m (omega arith) (at .below))
 
-    pub slot-here : Here named dependencies n v u w (t .reached) (t .found) (t .moves)
-    slot-here = record {
-      from = ask .1;
-      database = ask .2;
-      slot = low .within;
-      candidate = and-left _ (not (doneWith (getD (s .reached) u 0) (getD (s .found) u 0) n v w)) (sym (o .members w (low .within)) ∙ holds-of m₀ w (at .left .among w (low .on)));
-      ready = at .kept .ready;
-    }
+    pub slot-below : w < jobs
+    slot-below = low .within
 
-    module _ {k : ℕ} (p : k ≡ excluding m (lowest 32 m)) where
+    pub slot-fresh : Fresh named (t .reached) v u w
+    slot-fresh = at .fresh w (lowest-holds low)
+
+    -- the four ways that a turn can go
+
+    module _ (st : Standing named dependencies n v u) where
+      pub turn-held : digit (getD dependencies (u * jobs + w) 0) v ≡ 1 → Turned named dependencies n v u w t t
+      turn-held d = record { onward = onward-refl (at .onward .ready); hit = λ l. both (holds-of (getD dependencies (u * jobs + w) 0) v d) (l .free) }
+
+      module _ (d : ¬ (digit (getD dependencies (u * jobs + w) 0) v ≡ 1)) where
+        pub slot-link : Link (graph named dependencies n) u v w
+        slot-link = record {
+          job = low .within;
+          database = st .database;
+          leaves = st .names;
+          enters = slot-fresh .names;
+          differ = slot-fresh .differs;
+          free = ne-eqb _ 1 d;
+        }
+
+        pub turn-found : w ≡ n → digit (getD (t .found) u 0) v ≡ 1 → Turned named dependencies n v u w t t
+        turn-found new f = record { onward = onward-refl (at .onward .ready); hit = λ l. record { closes = λ q. holds-of (getD (t .found) u 0) v f; enters = λ old. absurd (old new) } }
+
+        pub turn-closes : w ≡ n → ¬ (digit (getD (t .found) u 0) v ≡ 1) → Turned named dependencies n v u w t (soFar (t .looked) (t .reached) (putIn (t .found) u v) (t .moves + 1))
+        turn-closes new f = record { onward = closing-on st (at .onward .ready) new slot-link f; hit = λ l. closing-hit st (at .onward .ready) new slot-link f }
+
+        -- what the visit of w asks, and that fewer pairs are left to it
+        pub forward-asked : ¬ (w ≡ n) → (unmarked (putIn (t .reached) u w) < unmarked (s .reached)) × (w < jobs) × Arrived named dependencies n w u
+            × Ready named dependencies n (soFar (t .looked) (putIn (t .reached) u w) (t .found) (t .moves + 1))
+        forward-asked old = (
+          lt-of-lt-of-le (next-falls st (at .onward .ready) old slot-link (slot-fresh .absent)) (unmarked-le (at .onward)),
+          low .within,
+          inr (walk-on st (at .onward .ready) old slot-link (slot-fresh .absent)),
+          next-ready st (at .onward .ready) old slot-link (slot-fresh .absent),
+        )
+
+        pub turn-forward : ¬ (w ≡ n) → (r : SoFar) → JobVisited named dependencies n w u (soFar (t .looked) (putIn (t .reached) u w) (t .found) (t .moves + 1)) r
+            → Turned named dependencies n v u w t (soFar (r .looked) (r .reached) (r .found) (r .moves + 1))
+        turn-forward old r k = record {
+          onward = forward-on st (at .onward .ready) old slot-link (slot-fresh .absent) k;
+          hit = λ l. forward-hit st (at .onward .ready) old slot-link (slot-fresh .absent) k;
+        }
+
+    -- x is left of m without w, and k is to try of it
+
+    module _ {x y k : ℕ} (p : x ≡ excluding m (lowest jobs m)) (o : Others x y v k) where
       pub slots-fall : k < m
-      slots-fall = left-falls _ 32 m₀ s m w t (o .below) ne (at .left) e k p
+      slots-fall = lt-of-le-of-lt (o .most) (rw (p, ← e) (rest-falls low))
 
-      pub slots-turn : (r : Seek marks) → (Here named dependencies n v u w (t .reached) (t .found) (t .moves) → r ≡ visitedSlot named dependencies n v u w t)
-          → AtSlots named dependencies n v u m₀ s r k
-      slots-turn r q = record {
-        left = left-rest _ 32 m₀ s m w t (o .below) ne (at .left) e k r p (q slot-here);
-        kept = kept-trans (at .kept)
-            (rw (q slot-here)
-            (next-kept named dependencies n t _ (at .kept .ready) (slot-next named dependencies n v u w t (ask .1) (ask .2) (low .within) (ask .3) (at .kept .ready))));
+      kept : (j : ℕ) → holds x j ≡ not (eqb j w) && holds m j
+      kept j = rw (p, ← e) (holds-excluding m w j)
+
+      pub slots-turn : (r : SoFar) → y ≡ getD (r .reached) u 0 → Turned named dependencies n v u w t r → AtSlots named dependencies n v u s r k
+      slots-turn r z now = record {
+        onward = onward-then (at .onward) (now .onward);
+        below = o .below;
+        fresh = λ j q. record {
+          names = at .fresh j (and-right (not (eqb j w)) (holds m j) (sym (kept j) ∙ of-all o j q)) .names;
+          differs = not-own o j q;
+          absent = ap (λ (a : ℕ). holds a j) (sym z) ∙ unreached o j q;
+        };
+        left = λ j l. by j l (eqb j w) refl (at .left j l);
       }
+        where
+          by : (j : ℕ) → Link (graph named dependencies n) u v j → (b : Bool) → eqb j w ≡ b
+              → (holds m j ≡ true) ⊎ Hit (graph named dependencies n) marks (t .reached) (t .found) v u j
+              → (holds k j ≡ true) ⊎ Hit (graph named dependencies n) marks (r .reached) (r .found) v u j
+          by j l true q h = inr (rw (eqb-true j w q) (now .hit (rw (eqb-true j w q) at l)))
+          by j l false q (inr h) = inr (hit-on (now .onward) h)
+          by j l false q (inl h) = try-or-hit (now .onward .ready) (rw z at o) j (l .job) (l .differ) (kept j ∙ rw (q, h))
 
-  -- the end: outside of the candidates nothing would have been done
-
-  -- what the loop keeps: what was reached is reached, and what was found is found. So it could be taken off before
-  pub record Grown (x : Seek marks) : Type 0 where
-    pub ready : Ready x
-    pub reached : (a b : ℕ) → marks .has (s .reached) a b ≡ true → marks .has (x .reached) a b ≡ true
-    pub found : (a b : ℕ) → marks .has (s .found) a b ≡ true → marks .has (x .found) a b ≡ true
-
-  grows : (w : ℕ) (x : Seek marks) → w < 32 → Grown x → Grown (visitedSlot named dependencies n v u w x)
-  grows w x l g =
-      let y = slot-next named dependencies n v u w x (ask .1) (ask .2) l (ask .3) (g .ready) in record {
-        ready = next-kept named dependencies n x _ (g .ready) y .ready;
-        reached = λ a b e. y .moreR a b (g .reached a b e);
-        found = λ a b e. y .moreF a b (g .found a b e);
-      }
-
-  outside : (w : ℕ) (x : Seek marks) → w < 32 → Grown x → holds m₀ w ≡ false → visitedSlot named dependencies n v u w x ≡ x
-  outside w x l g e = by (not (eqb w v) && holds (getD named u 0) w) refl (eqb w n) refl (holds (getD (s .reached) u 0) w) refl (holds (getD (s .found) u 0) v) refl
+  pub slots-done : m ≡ 0 → DatabaseVisited named dependencies n v u s t
+  slots-done z = record { onward = at .onward; through = record { hits = λ w l. by w (at .left w l) } }
     where
-      by : (a : Bool) → not (eqb w v) && holds (getD named u 0) w ≡ a → (b : Bool) → eqb w n ≡ b
-          → (c : Bool) → holds (getD (s .reached) u 0) w ≡ c → (d : Bool) → holds (getD (s .found) u 0) v ≡ d → visitedSlot named dependencies n v u w x ≡ x
-      by false p b q c r d f = slot-other named dependencies n v u w x p
-      by true p false q true r d f = slot-known named dependencies n v u w x (eqb-false w n q) (g .reached w u r)
-      by true p true q c r true f = slot-closed named dependencies n v u w x (eqb-true w n q) (g .found v u f)
-      by true p true q c r false f = both (o .members w l ∙ rw (p, q, f)) e
-      by true p false q false r d f = both (o .members w l ∙ rw (p, q, r)) e
-
-  pub slots-done : m ≡ 0 → t ≡ visitedDatabase named dependencies n v u s
-  unfolding across
-  slots-done z =
-      left-done _ 32 m₀ s m t z (at .left) ∙ sym (over-is-set (choose G marks (run G marks) v u) Grown 32 m₀ s grows outside (record { ready = ask .4; reached = λ a b e. e; found = λ a b e. e }) .1)
+      by : (w : ℕ) → (holds m w ≡ true) ⊎ Hit (graph named dependencies n) marks (t .reached) (t .found) v u w → Hit (graph named dependencies n) marks (t .reached) (t .found) v u w
+      by w (inl h) = both h (rw z (holds-none w))
+      by w (inr h) = h

@@ -1,44 +1,110 @@
 -- What the functions of the search ask and leave. Assumes nothing: these are definitions.
 use mathlib.Core.Path.{_≡_}
-use mathlib.Core.Bool.{Bool, not, _&&_, _||_}
+use mathlib.Core.Bool.{Bool, true, not, _&&_}
 use mathlib.Core.List.{List}
-use Prim.Native.Nat.{ℕ, _+_, _-_, _*_, _^_, _<_}
+use mathlib.Core.Logic.{_⊎_}
+use Prim.Native.Nat.{ℕ, _+_, _-_, _*_, _^_, _<_, _≤_}
 use lib.Dec.{eqb}
-use lib.ListN.{length}
+use lib.ListN.{length, getD}
+use Rattle.loops.specs.Sum.{tally}
 use Rattle.mask.specs.Member.{holds}
+use Rattle.mask.specs.Members.{gather}
 use Rattle.walks.specs.Marks.{Marks, count}
 use Rattle.walks.specs.Rows.{rows}
-use Rattle.walks.specs.Search.{Seek, run, across}
+use Rattle.walks.specs.Walk.{Graph, Link}
+use Rattle.walks.proofs.Walk.{Come}
+use Rattle.walks.proofs.Next.{Hit, Sound}
+use Rattle.search.specs.Limits.{jobs, databases}
 use Rattle.search.specs.Search.{graph}
 
 -- one set of slots for each database
-abbrev pub marks : Marks 32 16
-marks = rows 32 16
+abbrev pub marks : Marks jobs databases
+marks = rows jobs databases
 
-abbrev pub seek : List ℕ → List ℕ → ℕ → Seek marks
-seek reached found moves = record { reached = reached; found = found; moves = moves }
+-- what the search has so far; `looked` has a set of databases for each slot
+pub record SoFar : Type 0 where
+  pub looked : List ℕ
+  pub reached : List ℕ
+  pub found : List ℕ
+  pub moves : ℕ
+
+abbrev pub soFar : List ℕ → List ℕ → List ℕ → ℕ → SoFar
+soFar looked reached found moves = record { looked = looked; reached = reached; found = found; moves = moves }
+
+-- some visit of v looks through u
+abbrev pub looks : List ℕ → ℕ → ℕ → Bool
+looks looked v u = holds (getD looked v 0) u
 
 -- the pairs of a job and a database that are not reached: their number falls
 abbrev pub unmarked : List ℕ → ℕ
-unmarked reached = 512 - count marks reached
+unmarked reached = jobs * databases - count marks reached
 
--- the moves fit, those included that what is still unmarked can take: at most three for each pair
-pub record Ready (s : Seek marks) : Type 0 where
-  pub reached-sets : length (s .reached) ≡ 16
-  pub found-sets : length (s .found) ≡ 16
-  pub fits : s .moves + 1536 < 2 ^ 32 + (2 * count marks (s .reached) + count marks (s .found))
+-- a forward move and a return for each pair that is reached, a closing move for each that is found
+abbrev pub due : SoFar → ℕ
+due s = 2 * count marks (s .reached) + count marks (s .found)
 
--- slot j is done with at a database, come to from v: the new job n where the dependency from v to it is found, any other where it is reached
-abbrev pub doneWith : ℕ → ℕ → ℕ → ℕ → ℕ → Bool
-doneWith reached found n v j = eqb j n && holds found v || not (eqb j n) && holds reached j
+-- some visit of v looks through each database of v but t
+pub record Taken (named looked : List ℕ) (v t : ℕ) : Type 0 where
+  pub each : (u : ℕ) → u < databases → ¬ (u ≡ t) → holds (getD named u 0) v ≡ true → looks looked v u ≡ true
 
--- m has the members of `all` but v that are not done with
-pub record Candidates (all reached found n v m : ℕ) : Type 0 where
-  pub below : m < 2 ^ 32
-  pub members : (j : ℕ) → j < 32 → holds m j ≡ (not (eqb j v) && holds all j) && not (doneWith reached found n v j)
+module _ (named dependencies : List ℕ) (n : ℕ) where
+  abbrev G : Graph
+  G = graph named dependencies n
 
-abbrev pub visitedJob : List ℕ → List ℕ → ℕ → ℕ → ℕ → Seek marks → Seek marks
-visitedJob named dependencies n v via s = run (graph named dependencies n) marks v via s
+  -- the marks tell of walks only; and there are no more moves than the marks take, so they fit into their number
+  pub record Ready (s : SoFar) : Type 0 where
+    pub looked-sets : length (s .looked) ≡ jobs
+    pub reached-sets : length (s .reached) ≡ databases
+    pub found-sets : length (s .found) ≡ databases
+    pub sound : Sound G marks (s .reached) (s .found)
+    pub fits : s .moves ≤ due s
 
-abbrev pub visitedDatabase : List ℕ → List ℕ → ℕ → ℕ → ℕ → Seek marks → Seek marks
-visitedDatabase named dependencies n v u s = across (graph named dependencies n) marks (run (graph named dependencies n) marks) v u s
+  -- v is the new job, or a walk comes to it through `via`
+  abbrev pub Arrived : ℕ → ℕ → Type 0
+  Arrived v via = Come G v via
+
+  -- at v, which names u, one may go on through u
+  pub record Standing (v u : ℕ) : Type 0 where
+    pub job : v < jobs
+    pub database : u < databases
+    pub names : holds (getD named u 0) v ≡ true
+    pub via : ℕ
+    pub turns : ¬ (u ≡ via)
+    pub arrived : Arrived v via
+
+  -- from v through u nothing is left to choose
+  pub record Through (reached found : List ℕ) (v u : ℕ) : Type 0 where
+    pub hits : (w : ℕ) → Link G u v w → Hit G marks reached found v u w
+
+  -- from s the search has come to r: what is looked through since is through, and where it stood since, all is taken
+  pub record Onward (s r : SoFar) : Type 0 where
+    pub ready : Ready r
+    pub looked : (v u : ℕ) → looks (s .looked) v u ≡ true → looks (r .looked) v u ≡ true
+    pub reached : (w u : ℕ) → marks .has (s .reached) w u ≡ true → marks .has (r .reached) w u ≡ true
+    pub found : (v u : ℕ) → marks .has (s .found) v u ≡ true → marks .has (r .found) v u ≡ true
+    pub through : (v u : ℕ) → looks (r .looked) v u ≡ true → (looks (s .looked) v u ≡ true) ⊎ Through (r .reached) (r .found) v u
+    pub taken : (w t : ℕ) → marks .has (r .reached) w t ≡ true → (marks .has (s .reached) w t ≡ true) ⊎ Taken named (r .looked) w t
+    pub tally : r .moves + due s ≡ s .moves + due r
+
+  pub record JobVisited (v via : ℕ) (s r : SoFar) : Type 0 where
+    pub onward : Onward s r
+    pub taken : Taken named (r .looked) v via
+
+  pub record DatabaseVisited (v u : ℕ) (s r : SoFar) : Type 0 where
+    pub onward : Onward s r
+    pub through : Through (r .reached) (r .found) v u
+
+-- the databases that slot v names
+unfoldable pub databasesOf : List ℕ → ℕ → ℕ
+databasesOf named v = gather databases (λ u. tally (holds (getD named u 0) v))
+
+-- m has the databases of `names` that are not in `looked`, but not `via`
+pub record Ahead (names looked via m : ℕ) : Type 0 where
+  pub below : m < 2 ^ databases
+  pub members : (u : ℕ) → u < databases → holds m u ≡ not (eqb u via) && (holds names u && not (holds looked u))
+
+-- m has the slots of `all` but v that are not in `reached`
+pub record Others (all reached v m : ℕ) : Type 0 where
+  pub below : m < 2 ^ jobs
+  pub most : m ≤ all
+  pub members : (j : ℕ) → j < jobs → holds m j ≡ (not (eqb j v) && holds all j) && not (holds reached j)
