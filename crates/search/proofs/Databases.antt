@@ -1,30 +1,29 @@
 -- The loop of visit_job: the databases that it takes, walked from low to high. Assumes nothing.
 use Prim.Native.Nat.{ℕ, _^_, _<_}
 use native.Mathlib.Omega.{arith}
-use mathlib.Core.Bool.{Bool, true, false, not, _&&_, _||_}
+use mathlib.Core.Bool.{Bool, true, false, not, _&&_}
 use mathlib.Core.List.{List}
 use mathlib.Core.Logic.{_⊎_, inl, inr}
-use mathlib.Core.Path.{_≡_, refl, sym, ap, _∙_}
-use borrow.Author.Tests.{eqb-true, eqb-false, eq-eqb, ne-eqb, not-true}
-use lib.Bits.{bitOr}
+use mathlib.Core.Path.{_≡_, refl, sym, _∙_}
+use borrow.Author.Tests.{eqb-true, eqb-false, ne-eqb, not-true}
 use lib.Dec.{eqb}
 use lib.ListN.{getD, set, length-set}
 use lib.Seq.{getD-set-same, getD-set-other}
-use Rattle.loops.proofs.Tests.{both, and-left, and-right, or-cases, or-right}
-use Rattle.mask.specs.Member.{holds, excluding, lowest}
+use Rattle.loops.proofs.Tests.{both, and-left, and-right}
+use Rattle.mask.specs.Member.{holds, excluding, less, lowest}
 use Rattle.mask.specs.Lowest.{Lowest}
+use Rattle.mask.proofs.Change.{excluding-lt}
 use Rattle.mask.proofs.Equal.{below-iff}
-use Rattle.mask.proofs.Gather.{holds-gather}
-use Rattle.mask.proofs.Holds.{holds-below, holds-none, holds-or, holds-excluding}
+use Rattle.mask.proofs.Holds.{holds-below, holds-none, holds-excluding, holds-less-any}
 use Rattle.mask.proofs.Lowest.{trailing-lowest, lowest-holds}
 use Rattle.mask.proofs.Walking.{rest-falls}
 use Rattle.search.specs.Limits.{jobs, databases}
-use Rattle.search.specs.Visit.{marks, SoFar, soFar, looks, Ready, Arrived, Standing, Through, Taken, Onward, JobVisited, DatabaseVisited, databasesOf, Ahead}
+use Rattle.search.specs.Visit.{sets, SoFar, soFar, Ready, Arrived, Standing, Through, Taken, Onward, JobVisited, DatabaseVisited}
 use Rattle.search.proofs.Onward.{through-on, onward-refl, onward-then}
 
--- v's visit takes the databases of m, as the code has it
+-- x stays ahead of v
 abbrev pub taking : SoFar → ℕ → ℕ → SoFar
-taking s v m = soFar (set (s .looked) v (bitOr (getD (s .looked) v 0) m)) (s .reached) (s .found) (s .moves)
+taking s v x = soFar (set (s .ahead) v x) (s .reached) (s .found) (s .moves)
 
 -- m is left of the databases m₀ that were taken at s, and t is come to since
 pub record AtDatabases (named dependencies : List ℕ) (n v m₀ : ℕ) (s t : SoFar) (m : ℕ) : Type 0 where
@@ -37,92 +36,105 @@ databases-start h = record { onward = onward-refl h; among = λ u e. e; left = �
 
 -- what is taken
 
-module _ {named dependencies : List ℕ} {n v via m₀ : ℕ} {s : SoFar} (hv : v < jobs) (h : Ready named dependencies n s)
-    (o : Ahead (databasesOf named v) (getD (s .looked) v 0) via m₀) where
-  pub taking-ready : Ready named dependencies n (taking s v m₀)
+module _ {named dependencies : List ℕ} {n v m₀ : ℕ} (via : ℕ) {s : SoFar} (hv : v < jobs) (h : Ready named dependencies n s)
+    (is : m₀ ≡ excluding (getD (s .ahead) v 0) via) {x : ℕ} (off : x ≡ less databases (getD (s .ahead) v 0) m₀) where
+  all-below : getD (s .ahead) v 0 < 2 ^ databases
+  all-below = below-iff databases (getD (s .ahead) v 0) .1 (λ u e. h .ahead-named v u hv e .0)
+
+  pub taken-below : m₀ < 2 ^ databases
+  taken-below = rw is (excluding-lt databases (getD (s .ahead) v 0) via all-below)
+
+  member : (u : ℕ) → holds m₀ u ≡ not (eqb u via) && sets .has (s .ahead) u v
+  member u = rw is (holds-excluding (getD (s .ahead) v 0) via u)
+
+  own : (u : ℕ) → sets .has (taking s v x .ahead) u v ≡ sets .has (s .ahead) u v && not (holds m₀ u)
+  own u = rw (getD-set-same (s .ahead) v x 0 (omega (arith, h .ahead-sets)), off) (holds-less-any databases (getD (s .ahead) v 0) m₀ u all-below taken-below)
+
+  foreign : (a u : ℕ) → ¬ (a ≡ v) → sets .has (taking s v x .ahead) u a ≡ sets .has (s .ahead) u a
+  foreign a u ne = rw (getD-set-other (s .ahead) v a x 0 ne)
+
+  -- taken off now or before
+  taken-off : (a u : ℕ) → sets .has (taking s v x .ahead) u a ≡ false → (sets .has (s .ahead) u a ≡ false) ⊎ ((a ≡ v) × (holds m₀ u ≡ true))
+  taken-off a u e = by (eqb a v) refl
+    where
+      new : a ≡ v → (b c : Bool) → sets .has (s .ahead) u v ≡ b → holds m₀ u ≡ c → b && not c ≡ false → (sets .has (s .ahead) u a ≡ false) ⊎ ((a ≡ v) × (holds m₀ u ≡ true))
+      new q false c p r z = inl (rw q p)
+      new q true true p r z = inr (q, r)
+      new q true false p r z = both refl z
+
+      by : (b : Bool) → eqb a v ≡ b → (sets .has (s .ahead) u a ≡ false) ⊎ ((a ≡ v) × (holds m₀ u ≡ true))
+      by true q = new (eqb-true a v q) (sets .has (s .ahead) u v) (holds m₀ u) refl refl (sym (own u) ∙ (rw (eqb-true a v q) at e))
+      by false q = inl (sym (foreign a u (eqb-false a v q)) ∙ e)
+
+  ahead-on : (a u : ℕ) → sets .has (s .ahead) u a ≡ false → sets .has (taking s v x .ahead) u a ≡ false
+  ahead-on a u e = by (eqb a v) refl
+    where
+      by : (b : Bool) → eqb a v ≡ b → sets .has (taking s v x .ahead) u a ≡ false
+      by true q = rw (eqb-true a v q) (own u ∙ rw (rw (eqb-true a v q) at e))
+      by false q = foreign a u (eqb-false a v q) ∙ e
+
+  pub taking-ready : Ready named dependencies n (taking s v x)
   taking-ready = record {
-    looked-sets = length-set (s .looked) v _ ∙ h .looked-sets;
+    ahead-sets = length-set (s .ahead) v _ ∙ h .ahead-sets;
+    ahead-named = λ a u l e. by a u l e (sets .has (s .ahead) u a) refl;
     reached-sets = h .reached-sets;
     found-sets = h .found-sets;
     sound = h .sound;
     fits = h .fits;
   }
-
-  own : (u : ℕ) → looks (taking s v m₀ .looked) v u ≡ looks (s .looked) v u || holds m₀ u
-  own u = rw (getD-set-same (s .looked) v (bitOr (getD (s .looked) v 0) m₀) 0 (omega (arith, h .looked-sets))) (holds-or (getD (s .looked) v 0) m₀ u)
-
-  foreign : (a u : ℕ) → ¬ (a ≡ v) → looks (taking s v m₀ .looked) a u ≡ looks (s .looked) a u
-  foreign a u ne = rw (getD-set-other (s .looked) v a (bitOr (getD (s .looked) v 0) m₀) 0 ne)
-
-  taken-of : (a u : ℕ) → looks (taking s v m₀ .looked) a u ≡ true → (looks (s .looked) a u ≡ true) ⊎ ((a ≡ v) × (holds m₀ u ≡ true))
-  taken-of a u e = by (eqb a v) refl
     where
-      new : (a ≡ v) → (looks (s .looked) v u ≡ true) ⊎ (holds m₀ u ≡ true) → (looks (s .looked) a u ≡ true) ⊎ ((a ≡ v) × (holds m₀ u ≡ true))
-      new q (inl k) = inl (rw q k)
-      new q (inr k) = inr (q, k)
+      by : (a u : ℕ) → a < jobs → sets .has (taking s v x .ahead) u a ≡ true → (b : Bool) → sets .has (s .ahead) u a ≡ b → (u < databases) × (holds (getD named u 0) a ≡ true)
+      by a u l e true q = h .ahead-named a u l q
+      by a u l e false q = both e (ahead-on a u q)
 
-      by : (b : Bool) → eqb a v ≡ b → (looks (s .looked) a u ≡ true) ⊎ ((a ≡ v) × (holds m₀ u ≡ true))
-      by true q = new (eqb-true a v q) (or-cases _ _ (sym (own u) ∙ (rw (eqb-true a v q) at e)))
-      by false q = inl (sym (foreign a u (eqb-false a v q)) ∙ e)
-
-  looked-on : (a u : ℕ) → looks (s .looked) a u ≡ true → looks (taking s v m₀ .looked) a u ≡ true
-  looked-on a u e = by (eqb a v) refl
+  -- but for `via` nothing is ahead of v any more
+  takes : Taken (taking s v x .ahead) v via
+  takes = record { each = λ u ne. own u ∙ rw (member u, ne-eqb u via ne) (by (sets .has (s .ahead) u v)) }
     where
-      by : (b : Bool) → eqb a v ≡ b → looks (taking s v m₀ .looked) a u ≡ true
-      by true q = rw (eqb-true a v q) (own u ∙ rw (rw (eqb-true a v q) at e))
-      by false q = foreign a u (eqb-false a v q) ∙ e
-
-  -- each database of v but `via` is looked through, now or before
-  takes : Taken named (taking s v m₀ .looked) v via
-  unfolding databasesOf
-  takes = record { each = λ u l ne e. own u ∙ by u l ne e (looks (s .looked) v u) refl }
-    where
-      by : (u : ℕ) → u < databases → ¬ (u ≡ via) → holds (getD named u 0) v ≡ true → (b : Bool) → looks (s .looked) v u ≡ b → looks (s .looked) v u || holds m₀ u ≡ true
-      by u l ne e true q = rw q
-      by u l ne e false q = rw q (o .members u l ∙ rw (ne-eqb u via ne, q, holds-gather (λ u. holds (getD named u 0) v) databases u l, e))
+      by : (b : Bool) → b && not b ≡ false
+      by true = refl
+      by false = refl
 
   -- from v one may go on through each of those taken
   pub taken-standing : Arrived named dependencies n v via → (u : ℕ) → holds m₀ u ≡ true → Standing named dependencies n v u
-  unfolding databasesOf
   taken-standing come u e =
-      let l = holds-below databases m₀ u (o .below) e in
-      let p : not (eqb u via) && (holds (databasesOf named v) u && not (looks (s .looked) v u)) ≡ true = sym (o .members u l) ∙ e in
-      let q = and-left (holds (databasesOf named v) u) (not (looks (s .looked) v u)) (and-right (not (eqb u via)) _ p) in
+      let p : not (eqb u via) && sets .has (s .ahead) u v ≡ true = sym (member u) ∙ e in
+      let q = h .ahead-named v u hv (and-right (not (eqb u via)) (sets .has (s .ahead) u v) p) in
       record {
         job = hv;
-        database = l;
-        names = sym (holds-gather (λ u. holds (getD named u 0) v) databases u l) ∙ q;
+        database = q .0;
+        names = q .1;
         via = via;
-        turns = eqb-false u via (not-true (eqb u via) (and-left (not (eqb u via)) _ p));
+        turns = eqb-false u via (not-true (eqb u via) (and-left (not (eqb u via)) (sets .has (s .ahead) u v) p));
         arrived = come;
       }
 
-  pub databases-done : {t : SoFar} {m : ℕ} → AtDatabases named dependencies n v m₀ (taking s v m₀) t m → m ≡ 0 → JobVisited named dependencies n v via s t
+  pub databases-done : {t : SoFar} {m : ℕ} → AtDatabases named dependencies n v m₀ (taking s v x) t m → m ≡ 0 → JobVisited named dependencies n v via s t
   databases-done {t} {m} at z = record {
     onward = record {
       ready = at .onward .ready;
-      looked = λ a u e. at .onward .looked a u (looked-on a u e);
+      ahead = λ a u e. at .onward .ahead a u (ahead-on a u e);
       reached = at .onward .reached;
       found = at .onward .found;
       through = λ a u e. before a u (at .onward .through a u e);
       taken = at .onward .taken;
       tally = at .onward .tally;
     };
-    taken = record { each = λ u l ne e. at .onward .looked v u (takes .each u l ne e) };
+    taken = record { each = λ u ne. at .onward .ahead v u (takes .each u ne) };
   }
     where
       walked : (a u : ℕ) → a ≡ v → (holds m u ≡ true) ⊎ Through named dependencies n (t .reached) (t .found) v u → Through named dependencies n (t .reached) (t .found) a u
       walked a u q (inl k) = both k (rw z (holds-none u))
       walked a u q (inr k) = rw q k
 
-      now : (a u : ℕ) → (looks (s .looked) a u ≡ true) ⊎ ((a ≡ v) × (holds m₀ u ≡ true))
-          → (looks (s .looked) a u ≡ true) ⊎ Through named dependencies n (t .reached) (t .found) a u
+      now : (a u : ℕ) → (sets .has (s .ahead) u a ≡ false) ⊎ ((a ≡ v) × (holds m₀ u ≡ true))
+          → (sets .has (s .ahead) u a ≡ false) ⊎ Through named dependencies n (t .reached) (t .found) a u
       now a u (inl k) = inl k
       now a u (inr k) = inr (walked a u (k .0) (at .left u (k .1)))
 
-      before : (a u : ℕ) → (looks (taking s v m₀ .looked) a u ≡ true) ⊎ Through named dependencies n (t .reached) (t .found) a u
-          → (looks (s .looked) a u ≡ true) ⊎ Through named dependencies n (t .reached) (t .found) a u
-      before a u (inl k) = now a u (taken-of a u k)
+      before : (a u : ℕ) → (sets .has (taking s v x .ahead) u a ≡ false) ⊎ Through named dependencies n (t .reached) (t .found) a u
+          → (sets .has (s .ahead) u a ≡ false) ⊎ Through named dependencies n (t .reached) (t .found) a u
+      before a u (inl k) = now a u (taken-off a u k)
       before a u (inr k) = inr k
 
 -- a turn: u is the lowest of those left

@@ -8,7 +8,7 @@ use mathlib.Core.Path.{_≡_, ap, _∙_}
 use borrow.Author.Tests.{ne-eqb}
 use lib.Bits.{bitOr}
 use lib.ListN.{getD, set, length-set}
-use Rattle.mask.specs.Member.{digit, holds}
+use Rattle.mask.specs.Member.{digit}
 use Rattle.mask.proofs.Words.{or-shl}
 use Rattle.walks.specs.Marks.{count}
 use Rattle.walks.specs.Walk.{Link, Reach, WalkEnd}
@@ -34,7 +34,7 @@ so-far-is p q r z = rw (p, q, r, z)
 module _ {named dependencies : List ℕ} {n v u : ℕ} (at : Standing named dependencies n v u) {s : SoFar} (h : Ready named dependencies n s) {w : ℕ} where
   module _ (new : w ≡ n) (l : Link (graph named dependencies n) u v w) (absent : ¬ (digit (getD (s .found) u 0) v ≡ 1)) where
     closed : SoFar
-    closed = soFar (s .looked) (s .reached) (marks .put (s .found) v u) (s .moves + 1)
+    closed = soFar (s .ahead) (s .reached) (marks .put (s .found) v u) (s .moves + 1)
 
     one-found : count marks (marks .put (s .found) v u) ≡ count marks (s .found) + 1
     one-found = count-put marks (s .found) v u (h .found-sets) (at .job) (at .database) (ne-eqb (digit (getD (s .found) u 0) v) 1 absent)
@@ -43,13 +43,14 @@ module _ {named dependencies : List ℕ} {n v u : ℕ} (at : Standing named depe
     unfolding closed
     closed-on = record {
       ready = record {
-        looked-sets = h .looked-sets;
+        ahead-sets = h .ahead-sets;
+        ahead-named = h .ahead-named;
         reached-sets = h .reached-sets;
         found-sets = length-set (s .found) u _ ∙ h .found-sets;
         sound = record { walks = h .sound .walks; ends = λ a b e. by a b (put-only marks (s .found) v u (h .found-sets) (at .job) (at .database) a b e) };
         fits = omega (arith, h .fits, one-found);
       };
-      looked = λ a b e. e;
+      ahead = λ a b e. e;
       reached = λ a b e. e;
       found = put-more marks (s .found) v u (h .found-sets) (at .job) (at .database);
       through = λ a b e. inl e;
@@ -61,7 +62,7 @@ module _ {named dependencies : List ℕ} {n v u : ℕ} (at : Standing named depe
         by a b (inl e) = rw (e .0, e .1) (end-at (graph named dependencies n) v (at .via) u w (at .turns) l new (at .arrived))
         by a b (inr e) = h .sound .ends a b e
 
-    pub closing-on : Onward named dependencies n s (soFar (s .looked) (s .reached) (putIn (s .found) u v) (s .moves + 1))
+    pub closing-on : Onward named dependencies n s (soFar (s .ahead) (s .reached) (putIn (s .found) u v) (s .moves + 1))
     unfolding closed
     closing-on = rw (put-is (s .found) u v (at .job)) closed-on
 
@@ -71,7 +72,7 @@ module _ {named dependencies : List ℕ} {n v u : ℕ} (at : Standing named depe
   module _ (old : ¬ (w ≡ n)) (l : Link (graph named dependencies n) u v w) (absent : marks .has (s .reached) w u ≡ false) where
     -- w is marked
     abbrev pub next : SoFar
-    next = soFar (s .looked) (putIn (s .reached) u w) (s .found) (s .moves + 1)
+    next = soFar (s .ahead) (putIn (s .reached) u w) (s .found) (s .moves + 1)
 
     is : putIn (s .reached) u w ≡ marks .put (s .reached) w u
     is = put-is (s .reached) u w (l .job)
@@ -90,7 +91,8 @@ module _ {named dependencies : List ℕ} {n v u : ℕ} (at : Standing named depe
 
     pub next-ready : Ready named dependencies n next
     next-ready = record {
-      looked-sets = h .looked-sets;
+      ahead-sets = h .ahead-sets;
+      ahead-named = h .ahead-named;
       reached-sets = length-set (s .reached) u _ ∙ h .reached-sets;
       found-sets = h .found-sets;
       sound = record { walks = λ a b e. by a b (only a b e); ends = h .sound .ends };
@@ -107,16 +109,17 @@ module _ {named dependencies : List ℕ} {n v u : ℕ} (at : Standing named depe
     -- the search goes on from there, comes to r, and returns
 
     module _ {r : SoFar} (k : JobVisited named dependencies n w u next r) where
-      pub forward-on : Onward named dependencies n s (soFar (r .looked) (r .reached) (r .found) (r .moves + 1))
+      pub forward-on : Onward named dependencies n s (soFar (r .ahead) (r .reached) (r .found) (r .moves + 1))
       forward-on = record {
         ready = record {
-          looked-sets = k .onward .ready .looked-sets;
+          ahead-sets = k .onward .ready .ahead-sets;
+          ahead-named = k .onward .ready .ahead-named;
           reached-sets = k .onward .ready .reached-sets;
           found-sets = k .onward .ready .found-sets;
           sound = k .onward .ready .sound;
           fits = omega (arith, k .onward .tally, h .fits, one-reached);
         };
-        looked = k .onward .looked;
+        ahead = k .onward .ahead;
         reached = λ a b e. k .onward .reached a b (more a b e);
         found = k .onward .found;
         through = k .onward .through;
@@ -124,11 +127,11 @@ module _ {named dependencies : List ℕ} {n v u : ℕ} (at : Standing named depe
         tally = omega (arith, k .onward .tally, one-reached);
       }
         where
-          this : (a b : ℕ) → ((a ≡ w) × (b ≡ u)) ⊎ (marks .has (s .reached) a b ≡ true) → (marks .has (s .reached) a b ≡ true) ⊎ Taken named (r .looked) a b
+          this : (a b : ℕ) → ((a ≡ w) × (b ≡ u)) ⊎ (marks .has (s .reached) a b ≡ true) → (marks .has (s .reached) a b ≡ true) ⊎ Taken (r .ahead) a b
           this a b (inl e) = inr (rw (e .0, e .1) (k .taken))
           this a b (inr e) = inl e
 
-          stood : (a b : ℕ) → (marks .has (putIn (s .reached) u w) a b ≡ true) ⊎ Taken named (r .looked) a b → (marks .has (s .reached) a b ≡ true) ⊎ Taken named (r .looked) a b
+          stood : (a b : ℕ) → (marks .has (putIn (s .reached) u w) a b ≡ true) ⊎ Taken (r .ahead) a b → (marks .has (s .reached) a b ≡ true) ⊎ Taken (r .ahead) a b
           stood a b (inl e) = this a b (only a b e)
           stood a b (inr t) = inr t
 

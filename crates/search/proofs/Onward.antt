@@ -1,14 +1,14 @@
 -- What the search has goes on from part to part: what was marked stays, and what was through stays through. Assumes nothing.
 use Prim.Native.Nat.{ℕ, _+_, _^_, _<_, _≤_}
 use native.Mathlib.Omega.{arith}
-use mathlib.Core.Bool.{true}
+use mathlib.Core.Bool.{true, false}
 use mathlib.Core.List.{List}
 use mathlib.Core.Logic.{_⊎_, inl, inr}
 use mathlib.Core.Path.{_≡_, refl}
 use Rattle.walks.proofs.Marking.{count-le, count-mono}
 use Rattle.walks.proofs.Next.{Hit}
 use Rattle.search.specs.Search.{graph}
-use Rattle.search.specs.Visit.{marks, SoFar, looks, unmarked, Ready, Through, Taken, Onward}
+use Rattle.search.specs.Visit.{marks, sets, SoFar, unmarked, Ready, Through, Taken, Onward}
 
 module _ {named dependencies : List ℕ} {n : ℕ} where
   -- one more move fits
@@ -22,8 +22,8 @@ module _ {named dependencies : List ℕ} {n : ℕ} where
     pub through-on : {v u : ℕ} → Through named dependencies n (s .reached) (s .found) v u → Through named dependencies n (r .reached) (r .found) v u
     through-on k = record { hits = λ w l. hit-on (k .hits w l) }
 
-    taken-on : {w t : ℕ} → Taken named (s .looked) w t → Taken named (r .looked) w t
-    taken-on {w} {t} k = record { each = λ u l ne e. h .looked w u (k .each u l ne e) }
+    taken-on : {w t : ℕ} → Taken (s .ahead) w t → Taken (r .ahead) w t
+    taken-on {w} {t} k = record { each = λ u ne. h .ahead w u (k .each u ne) }
 
     -- the pairs that are not reached do not get more
     pub unmarked-le : unmarked (r .reached) ≤ unmarked (s .reached)
@@ -32,7 +32,7 @@ module _ {named dependencies : List ℕ} {n : ℕ} where
   pub onward-refl : {s : SoFar} → Ready named dependencies n s → Onward named dependencies n s s
   onward-refl h = record {
     ready = h;
-    looked = λ v u e. e;
+    ahead = λ v u e. e;
     reached = λ w u e. e;
     found = λ v u e. e;
     through = λ v u e. inl e;
@@ -43,7 +43,7 @@ module _ {named dependencies : List ℕ} {n : ℕ} where
   pub onward-then : {a b c : SoFar} → Onward named dependencies n a b → Onward named dependencies n b c → Onward named dependencies n a c
   onward-then {a} {b} {c} p q = record {
     ready = q .ready;
-    looked = λ v u e. q .looked v u (p .looked v u e);
+    ahead = λ v u e. q .ahead v u (p .ahead v u e);
     reached = λ w u e. q .reached w u (p .reached w u e);
     found = λ v u e. q .found v u (p .found v u e);
     through = λ v u e. before v u (q .through v u e);
@@ -51,18 +51,18 @@ module _ {named dependencies : List ℕ} {n : ℕ} where
     tally = omega (arith, p .tally, q .tally);
   }
     where
-      early : (v u : ℕ) → (looks (a .looked) v u ≡ true) ⊎ Through named dependencies n (b .reached) (b .found) v u → (looks (a .looked) v u ≡ true) ⊎ Through named dependencies n (c .reached) (c .found) v u
+      early : (v u : ℕ) → (sets .has (a .ahead) u v ≡ false) ⊎ Through named dependencies n (b .reached) (b .found) v u → (sets .has (a .ahead) u v ≡ false) ⊎ Through named dependencies n (c .reached) (c .found) v u
       early v u (inl e) = inl e
       early v u (inr k) = inr (through-on q k)
 
-      before : (v u : ℕ) → (looks (b .looked) v u ≡ true) ⊎ Through named dependencies n (c .reached) (c .found) v u → (looks (a .looked) v u ≡ true) ⊎ Through named dependencies n (c .reached) (c .found) v u
+      before : (v u : ℕ) → (sets .has (b .ahead) u v ≡ false) ⊎ Through named dependencies n (c .reached) (c .found) v u → (sets .has (a .ahead) u v ≡ false) ⊎ Through named dependencies n (c .reached) (c .found) v u
       before v u (inl e) = early v u (p .through v u e)
       before v u (inr k) = inr k
 
-      first : (w t : ℕ) → (marks .has (a .reached) w t ≡ true) ⊎ Taken named (b .looked) w t → (marks .has (a .reached) w t ≡ true) ⊎ Taken named (c .looked) w t
+      first : (w t : ℕ) → (marks .has (a .reached) w t ≡ true) ⊎ Taken (b .ahead) w t → (marks .has (a .reached) w t ≡ true) ⊎ Taken (c .ahead) w t
       first w t (inl e) = inl e
       first w t (inr k) = inr (taken-on q k)
 
-      stood : (w t : ℕ) → (marks .has (b .reached) w t ≡ true) ⊎ Taken named (c .looked) w t → (marks .has (a .reached) w t ≡ true) ⊎ Taken named (c .looked) w t
+      stood : (w t : ℕ) → (marks .has (b .reached) w t ≡ true) ⊎ Taken (c .ahead) w t → (marks .has (a .reached) w t ≡ true) ⊎ Taken (c .ahead) w t
       stood w t (inl e) = first w t (p .taken w t e)
       stood w t (inr k) = inr k

@@ -1,5 +1,5 @@
 -- The loop of visit_database: the slots to try at a database, walked from low to high. Assumes nothing.
-use Prim.Native.Nat.{ℕ, _+_, _*_, _^_, _<_, _≤_}
+use Prim.Native.Nat.{ℕ, _+_, _*_, _^_, _<_}
 use native.Mathlib.Nat.{lt-of-le-of-lt, lt-of-lt-of-le}
 use native.Mathlib.Omega.{arith}
 use mathlib.Core.Bool.{Bool, true, false, not, _&&_}
@@ -109,12 +109,12 @@ module _ {named dependencies : List ℕ} {n v u : ℕ} {s t : SoFar} {m : ℕ} (
         pub turn-found : w ≡ n → digit (getD (t .found) u 0) v ≡ 1 → Turned named dependencies n v u w t t
         turn-found new f = record { onward = onward-refl (at .onward .ready); hit = λ l. record { closes = λ q. holds-of (getD (t .found) u 0) v f; enters = λ old. absurd (old new) } }
 
-        pub turn-closes : w ≡ n → ¬ (digit (getD (t .found) u 0) v ≡ 1) → Turned named dependencies n v u w t (soFar (t .looked) (t .reached) (putIn (t .found) u v) (t .moves + 1))
+        pub turn-closes : w ≡ n → ¬ (digit (getD (t .found) u 0) v ≡ 1) → Turned named dependencies n v u w t (soFar (t .ahead) (t .reached) (putIn (t .found) u v) (t .moves + 1))
         turn-closes new f = record { onward = closing-on st (at .onward .ready) new slot-link f; hit = λ l. closing-hit st (at .onward .ready) new slot-link f }
 
         -- what the visit of w asks, and that fewer pairs are left to it
         pub forward-asked : ¬ (w ≡ n) → (unmarked (putIn (t .reached) u w) < unmarked (s .reached)) × (w < jobs) × Arrived named dependencies n w u
-            × Ready named dependencies n (soFar (t .looked) (putIn (t .reached) u w) (t .found) (t .moves + 1))
+            × Ready named dependencies n (soFar (t .ahead) (putIn (t .reached) u w) (t .found) (t .moves + 1))
         forward-asked old = (
           lt-of-lt-of-le (next-falls st (at .onward .ready) old slot-link (slot-fresh .absent)) (unmarked-le (at .onward)),
           low .within,
@@ -122,8 +122,8 @@ module _ {named dependencies : List ℕ} {n v u : ℕ} {s t : SoFar} {m : ℕ} (
           next-ready st (at .onward .ready) old slot-link (slot-fresh .absent),
         )
 
-        pub turn-forward : ¬ (w ≡ n) → (r : SoFar) → JobVisited named dependencies n w u (soFar (t .looked) (putIn (t .reached) u w) (t .found) (t .moves + 1)) r
-            → Turned named dependencies n v u w t (soFar (r .looked) (r .reached) (r .found) (r .moves + 1))
+        pub turn-forward : ¬ (w ≡ n) → (r : SoFar) → JobVisited named dependencies n w u (soFar (t .ahead) (putIn (t .reached) u w) (t .found) (t .moves + 1)) r
+            → Turned named dependencies n v u w t (soFar (r .ahead) (r .reached) (r .found) (r .moves + 1))
         turn-forward old r k = record {
           onward = forward-on st (at .onward .ready) old slot-link (slot-fresh .absent) k;
           hit = λ l. forward-hit st (at .onward .ready) old slot-link (slot-fresh .absent) k;

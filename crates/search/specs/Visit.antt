@@ -1,14 +1,14 @@
 -- What the functions of the search ask and leave. Assumes nothing: these are definitions.
 use mathlib.Core.Path.{_≡_}
-use mathlib.Core.Bool.{Bool, true, not, _&&_}
+use mathlib.Core.Bool.{true, false, not, _&&_}
 use mathlib.Core.List.{List}
 use mathlib.Core.Logic.{_⊎_}
 use Prim.Native.Nat.{ℕ, _+_, _-_, _*_, _^_, _<_, _≤_}
 use lib.Dec.{eqb}
 use lib.ListN.{length, getD}
-use Rattle.loops.specs.Sum.{tally}
+use Rattle.loops.specs.Loop.{over}
 use Rattle.mask.specs.Member.{holds}
-use Rattle.mask.specs.Members.{gather}
+use Rattle.mask.specs.Members.{overMembers}
 use Rattle.walks.specs.Marks.{Marks, count}
 use Rattle.walks.specs.Rows.{rows}
 use Rattle.walks.specs.Walk.{Graph, Link}
@@ -21,19 +21,26 @@ use Rattle.search.specs.Search.{graph}
 abbrev pub marks : Marks jobs databases
 marks = rows jobs databases
 
--- what the search has so far; `looked` has a set of databases for each slot
+-- one set of databases for each slot
+abbrev pub sets : Marks databases jobs
+sets = rows databases jobs
+
+-- database u is ahead of each of the slots; and each database of those that name it
+unfoldable pub putAhead : ℕ → ℕ → List ℕ → List ℕ
+putAhead slots u ahead = overMembers jobs slots (λ v l. sets .put l u v) ahead
+
+unfoldable pub allAhead : List ℕ → List ℕ → List ℕ
+allAhead named ahead = over databases (λ u. putAhead (getD named u 0) u) ahead
+
+-- what the search has so far
 pub record SoFar : Type 0 where
-  pub looked : List ℕ
+  pub ahead : List ℕ
   pub reached : List ℕ
   pub found : List ℕ
   pub moves : ℕ
 
 abbrev pub soFar : List ℕ → List ℕ → List ℕ → ℕ → SoFar
-soFar looked reached found moves = record { looked = looked; reached = reached; found = found; moves = moves }
-
--- some visit of v looks through u
-abbrev pub looks : List ℕ → ℕ → ℕ → Bool
-looks looked v u = holds (getD looked v 0) u
+soFar ahead reached found moves = record { ahead = ahead; reached = reached; found = found; moves = moves }
 
 -- the pairs of a job and a database that are not reached: their number falls
 abbrev pub unmarked : List ℕ → ℕ
@@ -43,17 +50,18 @@ unmarked reached = jobs * databases - count marks reached
 abbrev pub due : SoFar → ℕ
 due s = 2 * count marks (s .reached) + count marks (s .found)
 
--- some visit of v looks through each database of v but t
-pub record Taken (named looked : List ℕ) (v t : ℕ) : Type 0 where
-  pub each : (u : ℕ) → u < databases → ¬ (u ≡ t) → holds (getD named u 0) v ≡ true → looks looked v u ≡ true
+-- of the databases at most t is ahead of v
+pub record Taken (ahead : List ℕ) (v t : ℕ) : Type 0 where
+  pub each : (u : ℕ) → ¬ (u ≡ t) → sets .has ahead u v ≡ false
 
 module _ (named dependencies : List ℕ) (n : ℕ) where
   abbrev G : Graph
   G = graph named dependencies n
 
-  -- the marks tell of walks only; and there are no more moves than the marks take, so they fit into their number
+  -- ahead of a slot are only databases that it names; the marks tell of walks only; and there are no more moves than the marks take, so they fit into their number
   pub record Ready (s : SoFar) : Type 0 where
-    pub looked-sets : length (s .looked) ≡ jobs
+    pub ahead-sets : length (s .ahead) ≡ jobs
+    pub ahead-named : (v u : ℕ) → v < jobs → sets .has (s .ahead) u v ≡ true → (u < databases) × (holds (getD named u 0) v ≡ true)
     pub reached-sets : length (s .reached) ≡ databases
     pub found-sets : length (s .found) ≡ databases
     pub sound : Sound G marks (s .reached) (s .found)
@@ -76,32 +84,23 @@ module _ (named dependencies : List ℕ) (n : ℕ) where
   pub record Through (reached found : List ℕ) (v u : ℕ) : Type 0 where
     pub hits : (w : ℕ) → Link G u v w → Hit G marks reached found v u w
 
-  -- from s the search has come to r: what is looked through since is through, and where it stood since, all is taken
+  -- from s the search has come to r: what is taken off since is through, and where it stood since, all is taken off
   pub record Onward (s r : SoFar) : Type 0 where
     pub ready : Ready r
-    pub looked : (v u : ℕ) → looks (s .looked) v u ≡ true → looks (r .looked) v u ≡ true
+    pub ahead : (v u : ℕ) → sets .has (s .ahead) u v ≡ false → sets .has (r .ahead) u v ≡ false
     pub reached : (w u : ℕ) → marks .has (s .reached) w u ≡ true → marks .has (r .reached) w u ≡ true
     pub found : (v u : ℕ) → marks .has (s .found) v u ≡ true → marks .has (r .found) v u ≡ true
-    pub through : (v u : ℕ) → looks (r .looked) v u ≡ true → (looks (s .looked) v u ≡ true) ⊎ Through (r .reached) (r .found) v u
-    pub taken : (w t : ℕ) → marks .has (r .reached) w t ≡ true → (marks .has (s .reached) w t ≡ true) ⊎ Taken named (r .looked) w t
+    pub through : (v u : ℕ) → sets .has (r .ahead) u v ≡ false → (sets .has (s .ahead) u v ≡ false) ⊎ Through (r .reached) (r .found) v u
+    pub taken : (w t : ℕ) → marks .has (r .reached) w t ≡ true → (marks .has (s .reached) w t ≡ true) ⊎ Taken (r .ahead) w t
     pub tally : r .moves + due s ≡ s .moves + due r
 
   pub record JobVisited (v via : ℕ) (s r : SoFar) : Type 0 where
     pub onward : Onward s r
-    pub taken : Taken named (r .looked) v via
+    pub taken : Taken (r .ahead) v via
 
   pub record DatabaseVisited (v u : ℕ) (s r : SoFar) : Type 0 where
     pub onward : Onward s r
     pub through : Through (r .reached) (r .found) v u
-
--- the databases that slot v names
-unfoldable pub databasesOf : List ℕ → ℕ → ℕ
-databasesOf named v = gather databases (λ u. tally (holds (getD named u 0) v))
-
--- m has the databases of `names` that are not in `looked`, but not `via`
-pub record Ahead (names looked via m : ℕ) : Type 0 where
-  pub below : m < 2 ^ databases
-  pub members : (u : ℕ) → u < databases → holds m u ≡ not (eqb u via) && (holds names u && not (holds looked u))
 
 -- m has the slots of `all` but v that are not in `reached`
 pub record Others (all reached v m : ℕ) : Type 0 where

@@ -1,18 +1,14 @@
 // The opening search of document 01. Visiting a job leads to its databases, and visiting a database leads to jobs again.
 // Its arrays hold sets of slots. `named` at u: those that name u. `dependencies` at u * Slot::COUNT + w: those that go before w at u.
 // `reached` at u: those reached through u. `found` at u: those with a found dependency to the new job at u.
-// `looked` at v: the databases that some visit of v looks through. Once is enough, so no other visit of v does it again.
+// `ahead` at v: the databases of v that no visit of v looks through yet. Once is enough, so no other visit of v does it again.
 use numbers::Database;
 use numbers::Slot;
 ghost use mathlib.Core.Path.{_≡_};
-ghost use mathlib.Core.Bool.{true};
-ghost use Prim.Native.Nat.{_*_, _^_, _<_};
-ghost use lib.ListN.{getD};
-ghost use Rattle.loops.specs.Sum.{tally};
-ghost use Rattle.mask.specs.Member.{holds};
+ghost use Prim.Native.Nat.{_<_};
 ghost use Rattle.search.specs.Limits.{jobs, databases};
 ghost use Rattle.search.specs.Search.{sought};
-ghost use Rattle.search.specs.Visit.{soFar, Ready, Arrived, Standing, JobVisited, DatabaseVisited, Others, Ahead, databasesOf};
+ghost use Rattle.search.specs.Visit.{putAhead, allAhead, soFar, Ready, Arrived, Standing, JobVisited, DatabaseVisited, Others};
 
 const STEPS: usize = Slot::COUNT * Database::COUNT;
 
@@ -30,18 +26,19 @@ pub struct Sought {
 pub fn search(named: &[u32; Database::COUNT], dependencies: &[u32; STEPS], n: Slot) -> Sought
     ensures { λ r. ⌜ r ≡ sought (now (named .entry)) (now (dependencies .entry)) (n .0) ⌝ }
 {
-    let mut looked = [0u16; Slot::COUNT];
+    let mut ahead = [0u16; Slot::COUNT];
     let mut reached = [0u32; Database::COUNT];
     let mut found = [0u32; Database::COUNT];
     if n.0 >= SLOTS {
         return Sought { found, moves: 0 };
     }
+    put_all_ahead(&mut ahead, named);
     // The new job is reached through no database.
     let none = Database(DATABASES);
     let moves = visit_job(
         named,
         dependencies,
-        &mut looked,
+        &mut ahead,
         &mut reached,
         &mut found,
         n,
@@ -52,39 +49,35 @@ pub fn search(named: &[u32; Database::COUNT], dependencies: &[u32; STEPS], n: Sl
     Sought { found, moves }
 }
 
-// Database u as a set, where v is one of the slots that name it.
-fn naming(slots: u32, v: Slot, u: usize) -> u16
-    requires { ⌜ (v .0 < jobs) × (u < databases) ⌝ }
-    ensures { λ r. ⌜ r ≡ tally (holds slots (v .0)) * 2 ^ u ⌝ }
+// Database u is ahead of each of the slots.
+fn put_ahead(ahead: &mut [u16; Slot::COUNT], slots: u32, u: usize)
+    requires { ⌜ u < databases ⌝ }
+    ensures { λ r. ⌜ now (ahead .exit) ≡ putAhead slots u (now (ahead .entry)) ⌝ }
 {
-    if (slots >> v.0) % 2 == 1 { 1 << u } else { 0 }
-}
-
-// The databases that slot v names. No branch: all are tested at once.
-fn databases_of(named: &[u32; Database::COUNT], v: Slot) -> u16
-    requires { ⌜ v .0 < jobs ⌝ }
-    ensures { λ r. ⌜ r ≡ databasesOf (now (named .entry)) (v .0) ⌝ }
-{
-    let mut names = 0u16;
-    for u in 0..Database::COUNT {
-        names = names | naming(named[u], v, u);
+    let mut left = slots;
+    while left != 0 {
+        let v = mask::slots::lowest(left) as usize;
+        let before = ahead[v];
+        ahead[v] = before | 1 << u;
+        left = mask::slots::rest(left);
     }
-    names
 }
 
-// The databases of `names` that are not looked through yet, but not the one come through.
-fn ahead(names: u16, looked: u16, via: Database) -> u16
-    ensures { λ r. ⌜ Ahead names looked (via .0) r ⌝ }
+// Each database is ahead of the slots that name it.
+fn put_all_ahead(ahead: &mut [u16; Slot::COUNT], named: &[u32; Database::COUNT])
+    ensures { λ r. ⌜ now (ahead .exit) ≡ allAhead (now (named .entry)) (now (ahead .entry)) ⌝ }
 {
-    mask::databases::without_member(mask::databases::less(names, looked), via.0)
+    for u in 0..Database::COUNT {
+        put_ahead(ahead, named[u], u);
+    }
 }
 
-// From slot v, reached through database `via`, to those of its other databases that no visit of v looks through yet.
-// They are taken before the first of them is visited: what comes to v again meanwhile leaves them to this visit.
+// From slot v, reached through database `via`, to the others of those ahead.
+// They are taken off before the first of them is visited: what comes to v again meanwhile leaves them to this visit.
 fn visit_job(
     named: &[u32; Database::COUNT],
     dependencies: &[u32; STEPS],
-    looked: &mut [u16; Slot::COUNT],
+    ahead: &mut [u16; Slot::COUNT],
     reached: &mut [u32; Database::COUNT],
     found: &mut [u32; Database::COUNT],
     n: Slot,
@@ -92,21 +85,20 @@ fn visit_job(
     via: Database,
     moves: u32,
 ) -> u32
-    requires { ⌜ (n .0 < jobs) × (v .0 < jobs) × Arrived (now named) (now dependencies) (n .0) (v .0) (via .0) × Ready (now named) (now dependencies) (n .0) (soFar (now looked) (now reached) (now found) moves) ⌝ }
-    ensures { λ r. ⌜ JobVisited (now (named .entry)) (now (dependencies .entry)) (n .0) (v .0) (via .0) (soFar (now (looked .entry)) (now (reached .entry)) (now (found .entry)) moves) (soFar (now (looked .exit)) (now (reached .exit)) (now (found .exit)) r) ⌝ }
+    requires { ⌜ (n .0 < jobs) × (v .0 < jobs) × Arrived (now named) (now dependencies) (n .0) (v .0) (via .0) × Ready (now named) (now dependencies) (n .0) (soFar (now ahead) (now reached) (now found) moves) ⌝ }
+    ensures { λ r. ⌜ JobVisited (now (named .entry)) (now (dependencies .entry)) (n .0) (v .0) (via .0) (soFar (now (ahead .entry)) (now (reached .entry)) (now (found .entry)) moves) (soFar (now (ahead .exit)) (now (reached .exit)) (now (found .exit)) r) ⌝ }
 {
     let j = v.0 as usize;
-    let taken = looked[j];
-    let names = databases_of(named, v);
-    let mut left = ahead(names, taken, via);
-    looked[j] = taken | left;
+    let all = ahead[j];
+    let mut left = mask::databases::without_member(all, via.0);
+    ahead[j] = mask::databases::less(all, left);
     let mut t = moves;
     while left != 0 {
         let u = mask::databases::lowest(left) as u8;
         t = visit_database(
             named,
             dependencies,
-            looked,
+            ahead,
             reached,
             found,
             n,
@@ -119,7 +111,7 @@ fn visit_job(
     t
 }
 
-// The slots of `all` but v that are not reached. The others would be passed over one by one; taken off here they cost nothing.
+// The slots of `all` but v that are not reached: those that are would be passed over one by one.
 fn others(all: u32, reached: u32, v: Slot) -> u32
     requires { ⌜ v .0 < jobs ⌝ }
     ensures { λ r. ⌜ Others all reached (v .0) r ⌝ }
@@ -131,7 +123,7 @@ fn others(all: u32, reached: u32, v: Slot) -> u32
 fn visit_database(
     named: &[u32; Database::COUNT],
     dependencies: &[u32; STEPS],
-    looked: &mut [u16; Slot::COUNT],
+    ahead: &mut [u16; Slot::COUNT],
     reached: &mut [u32; Database::COUNT],
     found: &mut [u32; Database::COUNT],
     n: Slot,
@@ -139,8 +131,8 @@ fn visit_database(
     u: Database,
     moves: u32,
 ) -> u32
-    requires { ⌜ (n .0 < jobs) × Standing (now named) (now dependencies) (n .0) (v .0) (u .0) × Ready (now named) (now dependencies) (n .0) (soFar (now looked) (now reached) (now found) moves) ⌝ }
-    ensures { λ r. ⌜ DatabaseVisited (now (named .entry)) (now (dependencies .entry)) (n .0) (v .0) (u .0) (soFar (now (looked .entry)) (now (reached .entry)) (now (found .entry)) moves) (soFar (now (looked .exit)) (now (reached .exit)) (now (found .exit)) r) ⌝ }
+    requires { ⌜ (n .0 < jobs) × Standing (now named) (now dependencies) (n .0) (v .0) (u .0) × Ready (now named) (now dependencies) (n .0) (soFar (now ahead) (now reached) (now found) moves) ⌝ }
+    ensures { λ r. ⌜ DatabaseVisited (now (named .entry)) (now (dependencies .entry)) (n .0) (v .0) (u .0) (soFar (now (ahead .entry)) (now (reached .entry)) (now (found .entry)) moves) (soFar (now (ahead .exit)) (now (reached .exit)) (now (found .exit)) r) ⌝ }
 {
     let k = u.0 as usize;
     let mut t = moves;
@@ -159,7 +151,7 @@ fn visit_database(
             } else {
                 let x = reached[k];
                 reached[k] = x | 1 << w.0;
-                t = visit_job(named, dependencies, looked, reached, found, n, w, u, t + 1) + 1;
+                t = visit_job(named, dependencies, ahead, reached, found, n, w, u, t + 1) + 1;
             }
         }
         m = others(mask::slots::rest(m), reached[k], v);

@@ -1,5 +1,5 @@
 use borrow.Author.Needs.{needs}
-use mathlib.Core.Path.{_≡_, refl, _∙_}
+use mathlib.Core.Path.{refl}
 use mathlib.Core.Logic.{⊎-elim}
 use Prim.Native.Nat.{_+_, _*_, _^_, _<_}
 use native.Mathlib.Omega.{arith}
@@ -8,7 +8,7 @@ use Rattle.search.specs.Visit.{soFar, unmarked}
 use Rattle.search.proofs.Onward.{room, unmarked-le}
 use Rattle.search.proofs.Moves.{so-far-is}
 use Rattle.search.proofs.Slots.{AtSlots, turned-is, slots-start, slot-below, turn-held, turn-found, turn-closes, forward-asked, turn-forward, slots-fall, slots-turn, slots-done}
-use Rattle.search.proofs.Databases.{AtDatabases, databases-start, taking-ready, taken-standing, databases-done, database-taken, databases-fall, databases-turn}
+use Rattle.search.proofs.Databases.{AtDatabases, databases-start, taken-below, taking-ready, taken-standing, databases-done, database-taken, databases-fall, databases-turn}
 use Prim.Native.Nat.{ℕ, _<_}
 use borrow.Fn.Kinds.{In}
 use borrow.Fn.PlainCycle.{Measures, is, falls, and}
@@ -18,12 +18,12 @@ use Rattle.search.proofs.+visit_database+visit_job.Lts-visit_database a
 use Rattle.search.proofs.visit_job.Reads as visit-job
 use Rattle.search.proofs.visit_job.Kinds as visit-job-kinds
 use Rattle.search.proofs.+visit_database+visit_job.Lts-visit_job as visit-job-lts
+use Rattle.mask.proofs.databases.less.Reads as less-reads
 use Rattle.mask.proofs.databases.lowest.Reads as databases-lowest-reads
 use Rattle.mask.proofs.databases.rest.Reads as databases-rest-reads
+use Rattle.mask.proofs.databases.without_member.Reads as without-member-reads
 use Rattle.mask.proofs.slots.lowest.Reads as slots-lowest-reads
 use Rattle.mask.proofs.slots.rest.Reads as slots-rest-reads
-use Rattle.search.proofs.ahead.Reads as ahead-reads
-use Rattle.search.proofs.databases_of.Reads as databases-of-reads
 use Rattle.search.proofs.others.Reads as others-reads
 use Rattle.search.proofs.+visit_database+visit_job.{statement}
 use Rattle.search.proofs.+visit_database+visit_job.Tie.{close}
@@ -58,14 +58,14 @@ visit-job-below t =
     and 5 visit-job-kinds.ps (falls 5 visit-job-kinds.ps _<_ μ-visit-job t) visit-job.Pre
 
 abbrev visit-database-Inv-loop : visit-database-lts.InvT-loop
-visit-database-Inv-loop named dependencies looked₀ reached₀ found₀ n v u moves k t₀ m₀ looked reached found t m =
-    AtSlots named dependencies (n .0) (v .0) (u .0) (soFar looked₀ reached₀ found₀ t₀) (soFar looked reached found t) m
+visit-database-Inv-loop named dependencies ahead₀ reached₀ found₀ n v u moves k t₀ m₀ ahead reached found t m =
+    AtSlots named dependencies (n .0) (v .0) (u .0) (soFar ahead₀ reached₀ found₀ t₀) (soFar ahead reached found t) m
 
 abbrev visit-database-μ-loop : visit-database-lts.MeasureT-loop
-visit-database-μ-loop named dependencies looked₀ reached₀ found₀ n v u moves k t₀ m₀ looked reached found t m =
+visit-database-μ-loop named dependencies ahead₀ reached₀ found₀ n v u moves k t₀ m₀ ahead reached found t m =
     m
 
--- src/lib.rt:125:13
+-- src/lib.rt:137:13
 visit-database-cast-k : (t : ℕ) → visit-database-lts.Need-cast-k (
   others-reads.Asked,
   others-reads.Learnt,
@@ -78,7 +78,7 @@ visit-database-cast-k : (t : ℕ) → visit-database-lts.Need-cast-k (
 ) (visit-database-at t) visit-database.Post visit-database-Inv-loop visit-database-μ-loop
 visit-database-cast-k t c = search needs
 
--- src/lib.rt:127:24
+-- src/lib.rt:139:24
 visit-database-mul-others : (t : ℕ) → visit-database-lts.Need-mul-others (
   others-reads.Asked,
   others-reads.Learnt,
@@ -91,7 +91,7 @@ visit-database-mul-others : (t : ℕ) → visit-database-lts.Need-mul-others (
 ) (visit-database-at t) visit-database.Post visit-database-Inv-loop visit-database-μ-loop
 visit-database-mul-others t c = search needs
 
--- src/lib.rt:127:24
+-- src/lib.rt:139:24
 visit-database-element-copy-out-others : (t : ℕ) → visit-database-lts.Need-element-copy-out-others (
   others-reads.Asked,
   others-reads.Learnt,
@@ -104,7 +104,7 @@ visit-database-element-copy-out-others : (t : ℕ) → visit-database-lts.Need-e
 ) (visit-database-at t) visit-database.Post visit-database-Inv-loop visit-database-μ-loop
 visit-database-element-copy-out-others t c = search needs
 
--- src/lib.rt:127:34
+-- src/lib.rt:139:34
 visit-database-mul-others-2 : (t : ℕ) → visit-database-lts.Need-mul-others-2 (
   others-reads.Asked,
   others-reads.Learnt,
@@ -117,7 +117,7 @@ visit-database-mul-others-2 : (t : ℕ) → visit-database-lts.Need-mul-others-2
 ) (visit-database-at t) visit-database.Post visit-database-Inv-loop visit-database-μ-loop
 visit-database-mul-others-2 t c = search needs
 
--- src/lib.rt:127:34
+-- src/lib.rt:139:34
 visit-database-element-copy-out-others-2 :
     (t : ℕ) → visit-database-lts.Need-element-copy-out-others-2 (
       others-reads.Asked,
@@ -131,7 +131,7 @@ visit-database-element-copy-out-others-2 :
     ) (visit-database-at t) visit-database.Post visit-database-Inv-loop visit-database-μ-loop
 visit-database-element-copy-out-others-2 t c = search needs
 
--- src/lib.rt:127:9
+-- src/lib.rt:139:9
 visit-database-others-requires : (t : ℕ) → visit-database-lts.Need-others-requires (
   others-reads.Asked,
   others-reads.Learnt,
@@ -144,7 +144,7 @@ visit-database-others-requires : (t : ℕ) → visit-database-lts.Need-others-re
 ) (visit-database-at t) visit-database.Post visit-database-Inv-loop visit-database-μ-loop
 visit-database-others-requires t c κs = search needs
 
--- src/lib.rt:128:5
+-- src/lib.rt:140:5
 visit-database-loop-holds : (t : ℕ) → visit-database-lts.Need-loop-holds (
   others-reads.Asked,
   others-reads.Learnt,
@@ -157,7 +157,7 @@ visit-database-loop-holds : (t : ℕ) → visit-database-lts.Need-loop-holds (
 ) (visit-database-at t) visit-database.Post visit-database-Inv-loop visit-database-μ-loop
 visit-database-loop-holds t c = slots-start (c .before .before .before .before .pre .1 .2) (c .others .ensures)
 
--- src/lib.rt:129:19
+-- src/lib.rt:141:19
 visit-database-lowest-requires : (t : ℕ) → visit-database-lts.Need-lowest-requires (
   others-reads.Asked,
   others-reads.Learnt,
@@ -170,7 +170,7 @@ visit-database-lowest-requires : (t : ℕ) → visit-database-lts.Need-lowest-re
 ) (visit-database-at t) visit-database.Post visit-database-Inv-loop visit-database-μ-loop
 visit-database-lowest-requires t c κs = search needs
 
--- src/lib.rt:129:19
+-- src/lib.rt:141:19
 visit-database-cast-low : (t : ℕ) → visit-database-lts.Need-cast-low (
   others-reads.Asked,
   others-reads.Learnt,
@@ -185,7 +185,7 @@ visit-database-cast-low t c =
     let w : c .lowest .result < jobs = slot-below (c .before .before .loop .inv) (c .before .loop-test .taken) (c .lowest .ensures) in
     search needs
 
--- src/lib.rt:131:18
+-- src/lib.rt:143:18
 visit-database-mul-at : (t : ℕ) → visit-database-lts.Need-mul-at (
   others-reads.Asked,
   others-reads.Learnt,
@@ -198,7 +198,7 @@ visit-database-mul-at : (t : ℕ) → visit-database-lts.Need-mul-at (
 ) (visit-database-at t) visit-database.Post visit-database-Inv-loop visit-database-μ-loop
 visit-database-mul-at t c = search needs
 
--- src/lib.rt:131:36
+-- src/lib.rt:143:36
 visit-database-cast-at : (t : ℕ) → visit-database-lts.Need-cast-at (
   others-reads.Asked,
   others-reads.Learnt,
@@ -211,7 +211,7 @@ visit-database-cast-at : (t : ℕ) → visit-database-lts.Need-cast-at (
 ) (visit-database-at t) visit-database.Post visit-database-Inv-loop visit-database-μ-loop
 visit-database-cast-at t c = search needs
 
--- src/lib.rt:131:18
+-- src/lib.rt:143:18
 visit-database-add-at : (t : ℕ) → visit-database-lts.Need-add-at (
   others-reads.Asked,
   others-reads.Learnt,
@@ -226,7 +226,7 @@ visit-database-add-at t c =
     let w : c .before .lowest .result < jobs = slot-below (c .before .before .before .loop .inv) (c .before .before .loop-test .taken) (c .before .lowest .ensures) in
     search needs
 
--- src/lib.rt:132:13
+-- src/lib.rt:144:13
 visit-database-mul-if1 : (t : ℕ) → visit-database-lts.Need-mul-if1 (
   others-reads.Asked,
   others-reads.Learnt,
@@ -241,7 +241,7 @@ visit-database-mul-if1 t c =
     let w : c .before .lowest .result < jobs = slot-below (c .before .before .before .loop .inv) (c .before .before .loop-test .taken) (c .before .lowest .ensures) in
     search needs
 
--- src/lib.rt:132:13
+-- src/lib.rt:144:13
 visit-database-element-copy-out-if1 : (t : ℕ) → visit-database-lts.Need-element-copy-out-if1 (
   others-reads.Asked,
   others-reads.Learnt,
@@ -256,7 +256,7 @@ visit-database-element-copy-out-if1 t c =
     let w : c .before .lowest .result < jobs = slot-below (c .before .before .before .loop .inv) (c .before .before .loop-test .taken) (c .before .lowest .ensures) in
     search needs
 
--- src/lib.rt:132:33
+-- src/lib.rt:144:33
 visit-database-cast-if1 : (t : ℕ) → visit-database-lts.Need-cast-if1 (
   others-reads.Asked,
   others-reads.Learnt,
@@ -269,7 +269,7 @@ visit-database-cast-if1 : (t : ℕ) → visit-database-lts.Need-cast-if1 (
 ) (visit-database-at t) visit-database.Post visit-database-Inv-loop visit-database-μ-loop
 visit-database-cast-if1 t c = search needs
 
--- src/lib.rt:132:13
+-- src/lib.rt:144:13
 visit-database-shr-if1 : (t : ℕ) → visit-database-lts.Need-shr-if1 (
   others-reads.Asked,
   others-reads.Learnt,
@@ -282,7 +282,7 @@ visit-database-shr-if1 : (t : ℕ) → visit-database-lts.Need-shr-if1 (
 ) (visit-database-at t) visit-database.Post visit-database-Inv-loop visit-database-μ-loop
 visit-database-shr-if1 t c = search needs
 
--- src/lib.rt:134:25
+-- src/lib.rt:146:25
 visit-database-mul-x : (t : ℕ) → visit-database-lts.Need-mul-x (
   others-reads.Asked,
   others-reads.Learnt,
@@ -295,7 +295,7 @@ visit-database-mul-x : (t : ℕ) → visit-database-lts.Need-mul-x (
 ) (visit-database-at t) visit-database.Post visit-database-Inv-loop visit-database-μ-loop
 visit-database-mul-x t c = search needs
 
--- src/lib.rt:134:25
+-- src/lib.rt:146:25
 visit-database-element-copy-out-x : (t : ℕ) → visit-database-lts.Need-element-copy-out-x (
   others-reads.Asked,
   others-reads.Learnt,
@@ -308,7 +308,7 @@ visit-database-element-copy-out-x : (t : ℕ) → visit-database-lts.Need-elemen
 ) (visit-database-at t) visit-database.Post visit-database-Inv-loop visit-database-μ-loop
 visit-database-element-copy-out-x t c = search needs
 
--- src/lib.rt:135:26
+-- src/lib.rt:147:26
 visit-database-cast-if3 : (t : ℕ) → visit-database-lts.Need-cast-if3 (
   others-reads.Asked,
   others-reads.Learnt,
@@ -321,7 +321,7 @@ visit-database-cast-if3 : (t : ℕ) → visit-database-lts.Need-cast-if3 (
 ) (visit-database-at t) visit-database.Post visit-database-Inv-loop visit-database-μ-loop
 visit-database-cast-if3 t c = search needs
 
--- src/lib.rt:135:21
+-- src/lib.rt:147:21
 visit-database-shr-if3 : (t : ℕ) → visit-database-lts.Need-shr-if3 (
   others-reads.Asked,
   others-reads.Learnt,
@@ -334,7 +334,7 @@ visit-database-shr-if3 : (t : ℕ) → visit-database-lts.Need-shr-if3 (
 ) (visit-database-at t) visit-database.Post visit-database-Inv-loop visit-database-μ-loop
 visit-database-shr-if3 t c = search needs
 
--- src/lib.rt:136:41
+-- src/lib.rt:148:41
 visit-database-cast-found : (t : ℕ) → visit-database-lts.Need-cast-found (
   others-reads.Asked,
   others-reads.Learnt,
@@ -347,7 +347,7 @@ visit-database-cast-found : (t : ℕ) → visit-database-lts.Need-cast-found (
 ) (visit-database-at t) visit-database.Post visit-database-Inv-loop visit-database-μ-loop
 visit-database-cast-found t c = search needs
 
--- src/lib.rt:136:36
+-- src/lib.rt:148:36
 visit-database-shl-found : (t : ℕ) → visit-database-lts.Need-shl-found (
   others-reads.Asked,
   others-reads.Learnt,
@@ -360,7 +360,7 @@ visit-database-shl-found : (t : ℕ) → visit-database-lts.Need-shl-found (
 ) (visit-database-at t) visit-database.Post visit-database-Inv-loop visit-database-μ-loop
 visit-database-shl-found t c = search needs
 
--- src/lib.rt:136:21
+-- src/lib.rt:148:21
 visit-database-mul-found : (t : ℕ) → visit-database-lts.Need-mul-found (
   others-reads.Asked,
   others-reads.Learnt,
@@ -373,7 +373,7 @@ visit-database-mul-found : (t : ℕ) → visit-database-lts.Need-mul-found (
 ) (visit-database-at t) visit-database.Post visit-database-Inv-loop visit-database-μ-loop
 visit-database-mul-found t c = search needs
 
--- src/lib.rt:136:21
+-- src/lib.rt:148:21
 visit-database-element-write-found : (t : ℕ) → visit-database-lts.Need-element-write-found (
   others-reads.Asked,
   others-reads.Learnt,
@@ -386,7 +386,7 @@ visit-database-element-write-found : (t : ℕ) → visit-database-lts.Need-eleme
 ) (visit-database-at t) visit-database.Post visit-database-Inv-loop visit-database-μ-loop
 visit-database-element-write-found t c = search needs
 
--- src/lib.rt:137:25
+-- src/lib.rt:149:25
 visit-database-add-t : (t : ℕ) → visit-database-lts.Need-add-t (
   others-reads.Asked,
   others-reads.Learnt,
@@ -401,7 +401,7 @@ visit-database-add-t t c =
     let f : c .before .before .before .before .before .before .before .before .before .before .before .before .before .loop .t + 1 < 2 ^ 32 = room (c .before .before .before .before .before .before .before .before .before .before .before .before .before .loop .inv .onward .ready) in
     search needs
 
--- src/lib.rt:140:25
+-- src/lib.rt:152:25
 visit-database-mul-x-2 : (t : ℕ) → visit-database-lts.Need-mul-x-2 (
   others-reads.Asked,
   others-reads.Learnt,
@@ -414,7 +414,7 @@ visit-database-mul-x-2 : (t : ℕ) → visit-database-lts.Need-mul-x-2 (
 ) (visit-database-at t) visit-database.Post visit-database-Inv-loop visit-database-μ-loop
 visit-database-mul-x-2 t c = search needs
 
--- src/lib.rt:140:25
+-- src/lib.rt:152:25
 visit-database-element-copy-out-x-2 : (t : ℕ) → visit-database-lts.Need-element-copy-out-x-2 (
   others-reads.Asked,
   others-reads.Learnt,
@@ -427,7 +427,7 @@ visit-database-element-copy-out-x-2 : (t : ℕ) → visit-database-lts.Need-elem
 ) (visit-database-at t) visit-database.Post visit-database-Inv-loop visit-database-μ-loop
 visit-database-element-copy-out-x-2 t c = search needs
 
--- src/lib.rt:141:39
+-- src/lib.rt:153:39
 visit-database-cast-reached : (t : ℕ) → visit-database-lts.Need-cast-reached (
   others-reads.Asked,
   others-reads.Learnt,
@@ -440,7 +440,7 @@ visit-database-cast-reached : (t : ℕ) → visit-database-lts.Need-cast-reached
 ) (visit-database-at t) visit-database.Post visit-database-Inv-loop visit-database-μ-loop
 visit-database-cast-reached t c = search needs
 
--- src/lib.rt:141:34
+-- src/lib.rt:153:34
 visit-database-shl-reached : (t : ℕ) → visit-database-lts.Need-shl-reached (
   others-reads.Asked,
   others-reads.Learnt,
@@ -455,7 +455,7 @@ visit-database-shl-reached t c =
     let w : c .before .before .before .before .before .before .before .before .before .lowest .result < jobs = slot-below (c .before .before .before .before .before .before .before .before .before .before .before .loop .inv) (c .before .before .before .before .before .before .before .before .before .before .loop-test .taken) (c .before .before .before .before .before .before .before .before .before .lowest .ensures) in
     search needs
 
--- src/lib.rt:141:17
+-- src/lib.rt:153:17
 visit-database-mul-reached : (t : ℕ) → visit-database-lts.Need-mul-reached (
   others-reads.Asked,
   others-reads.Learnt,
@@ -468,7 +468,7 @@ visit-database-mul-reached : (t : ℕ) → visit-database-lts.Need-mul-reached (
 ) (visit-database-at t) visit-database.Post visit-database-Inv-loop visit-database-μ-loop
 visit-database-mul-reached t c = search needs
 
--- src/lib.rt:141:17
+-- src/lib.rt:153:17
 visit-database-element-write-reached : (t : ℕ) → visit-database-lts.Need-element-write-reached (
   others-reads.Asked,
   others-reads.Learnt,
@@ -481,7 +481,7 @@ visit-database-element-write-reached : (t : ℕ) → visit-database-lts.Need-ele
 ) (visit-database-at t) visit-database.Post visit-database-Inv-loop visit-database-μ-loop
 visit-database-element-write-reached t c = search needs
 
--- src/lib.rt:142:85
+-- src/lib.rt:154:84
 visit-database-add-visit-job : (t : ℕ) → visit-database-lts.Need-add-visit-job (
   others-reads.Asked,
   others-reads.Learnt,
@@ -496,7 +496,7 @@ visit-database-add-visit-job t c =
     let f : c .before .before .before .before .before .before .before .before .before .before .before .before .before .before .loop .t + 1 < 2 ^ 32 = room (c .before .before .before .before .before .before .before .before .before .before .before .before .before .before .loop .inv .onward .ready) in
     search needs
 
--- src/lib.rt:142:21
+-- src/lib.rt:154:21
 visit-database-visit-job-requires : (t : ℕ) → visit-database-lts.Need-visit-job-requires (
   others-reads.Asked,
   others-reads.Learnt,
@@ -511,7 +511,7 @@ visit-database-visit-job-requires t c κs =
     let q = forward-asked (c .before .before .before .before .before .before .before .before .before .before .before .before .before .before .loop .inv) (c .before .before .before .before .before .before .before .before .before .before .before .before .before .loop-test .taken) (c .before .before .before .before .before .before .before .before .before .before .before .before .lowest .ensures) (c .before .before .before .before .before .before .before .before .before .before .before .before .before .before .before .before .before .before .before .pre .1 .1) (c .before .before .before .before .before .before .before .before .if1 .taken) (c .before .before .before .before .before .if2 .left) in
     (omega (arith, q .0, c .before .before .before .before .before .before .before .before .before .before .before .before .before .before .before .before .before .before .before .pre .0), (c .before .before .before .before .before .before .before .before .before .before .before .before .before .before .before .before .before .before .before .pre .1 .0, q .1, q .2, q .3))
 
--- src/lib.rt:142:21
+-- src/lib.rt:154:21
 visit-database-add-t-2 : (t : ℕ) → visit-database-lts.Need-add-t-2 (
   others-reads.Asked,
   others-reads.Learnt,
@@ -526,7 +526,7 @@ visit-database-add-t-2 t c =
     let f : c .visit-job .result + 1 < 2 ^ 32 = room (c .visit-job .ensures .onward .ready) in
     search needs
 
--- src/lib.rt:145:20
+-- src/lib.rt:157:20
 visit-database-rest-requires : (t : ℕ) → visit-database-lts.Need-rest-requires (
   others-reads.Asked,
   others-reads.Learnt,
@@ -539,7 +539,7 @@ visit-database-rest-requires : (t : ℕ) → visit-database-lts.Need-rest-requir
 ) (visit-database-at t) visit-database.Post visit-database-Inv-loop visit-database-μ-loop
 visit-database-rest-requires t c κs = search needs
 
--- src/lib.rt:145:42
+-- src/lib.rt:157:42
 visit-database-mul-others-3 : (t : ℕ) → visit-database-lts.Need-mul-others-3 (
   others-reads.Asked,
   others-reads.Learnt,
@@ -552,7 +552,7 @@ visit-database-mul-others-3 : (t : ℕ) → visit-database-lts.Need-mul-others-3
 ) (visit-database-at t) visit-database.Post visit-database-Inv-loop visit-database-μ-loop
 visit-database-mul-others-3 t c = search needs
 
--- src/lib.rt:145:42
+-- src/lib.rt:157:42
 visit-database-element-copy-out-others-3 :
     (t : ℕ) → visit-database-lts.Need-element-copy-out-others-3 (
       others-reads.Asked,
@@ -566,7 +566,7 @@ visit-database-element-copy-out-others-3 :
     ) (visit-database-at t) visit-database.Post visit-database-Inv-loop visit-database-μ-loop
 visit-database-element-copy-out-others-3 t c = search needs
 
--- src/lib.rt:145:9
+-- src/lib.rt:157:9
 visit-database-others-requires-2 : (t : ℕ) → visit-database-lts.Need-others-requires-2 (
   others-reads.Asked,
   others-reads.Learnt,
@@ -579,7 +579,7 @@ visit-database-others-requires-2 : (t : ℕ) → visit-database-lts.Need-others-
 ) (visit-database-at t) visit-database.Post visit-database-Inv-loop visit-database-μ-loop
 visit-database-others-requires-2 t c κs = search needs
 
--- src/lib.rt:128:5
+-- src/lib.rt:140:5
 visit-database-loop-less : (t : ℕ) → visit-database-lts.Need-loop-less (
   others-reads.Asked,
   others-reads.Learnt,
@@ -592,7 +592,7 @@ visit-database-loop-less : (t : ℕ) → visit-database-lts.Need-loop-less (
 ) (visit-database-at t) visit-database.Post visit-database-Inv-loop visit-database-μ-loop
 visit-database-loop-less t c = slots-fall (c .before .before .before .before .before .before .before .before .before .loop .inv) (c .before .before .before .before .before .before .before .before .loop-test .taken) (c .before .before .before .before .before .before .before .lowest .ensures) (c .before .before .rest .ensures) (c .others2 .ensures)
 
--- src/lib.rt:128:5
+-- src/lib.rt:140:5
 visit-database-loop-again : (t : ℕ) → visit-database-lts.Need-loop-again (
   others-reads.Asked,
   others-reads.Learnt,
@@ -611,7 +611,7 @@ visit-database-loop-again t c =
     (λ w. turned-is (so-far-is (w .1) (w .2) (w .3) (w .4)) (turn-held (c .before .before .before .before .before .before .before .before .before .loop .inv) (c .before .before .before .before .before .before .before .before .loop-test .taken) (c .before .before .before .before .before .before .before .lowest .ensures) (c .before .before .before .before .before .before .before .before .before .before .before .before .before .before .pre .1 .1) (w .0 .left)))))
     (c .before .before .before .if1 .came))
 
--- src/lib.rt:111:1
+-- src/lib.rt:123:1
 visit-database-returns : (t : ℕ) → visit-database-lts.Need-returns (
   others-reads.Asked,
   others-reads.Learnt,
@@ -625,19 +625,19 @@ visit-database-returns : (t : ℕ) → visit-database-lts.Need-returns (
 visit-database-returns t c = slots-done (c .before .loop .inv) (c .loop-test .left)
 
 abbrev visit-job-Inv-loop : visit-job-lts.InvT-loop
-visit-job-Inv-loop named dependencies looked₀ reached₀ found₀ n v moves j taken names left₀ t₀ looked reached found left t =
-    AtDatabases named dependencies (n .0) (v .0) left₀ (soFar looked₀ reached₀ found₀ t₀) (soFar looked reached found t) left
+visit-job-Inv-loop named dependencies ahead₀ reached₀ found₀ n v moves j all left₀ t₀ ahead reached found left t =
+    AtDatabases named dependencies (n .0) (v .0) left₀ (soFar ahead₀ reached₀ found₀ t₀) (soFar ahead reached found t) left
 
 abbrev visit-job-μ-loop : visit-job-lts.MeasureT-loop
-visit-job-μ-loop named dependencies looked₀ reached₀ found₀ n v moves j taken names left₀ t₀ looked reached found left t =
+visit-job-μ-loop named dependencies ahead₀ reached₀ found₀ n v moves j all left₀ t₀ ahead reached found left t =
     left
 
--- src/lib.rt:88:13
+-- src/lib.rt:91:13
 visit-job-cast-j : (t : ℕ) → visit-job-lts.Need-cast-j (
-  databases-of-reads.Asked,
-  databases-of-reads.Learnt,
-  ahead-reads.Asked,
-  ahead-reads.Learnt,
+  without-member-reads.Asked,
+  without-member-reads.Learnt,
+  less-reads.Asked,
+  less-reads.Learnt,
   databases-lowest-reads.Asked,
   databases-lowest-reads.Learnt,
   visit-database-below t,
@@ -647,12 +647,12 @@ visit-job-cast-j : (t : ℕ) → visit-job-lts.Need-cast-j (
 ) (visit-job-at t) visit-job.Post visit-job-Inv-loop visit-job-μ-loop
 visit-job-cast-j t c = search needs
 
--- src/lib.rt:89:17
-visit-job-mul-taken : (t : ℕ) → visit-job-lts.Need-mul-taken (
-  databases-of-reads.Asked,
-  databases-of-reads.Learnt,
-  ahead-reads.Asked,
-  ahead-reads.Learnt,
+-- src/lib.rt:92:15
+visit-job-mul-all : (t : ℕ) → visit-job-lts.Need-mul-all (
+  without-member-reads.Asked,
+  without-member-reads.Learnt,
+  less-reads.Asked,
+  less-reads.Learnt,
   databases-lowest-reads.Asked,
   databases-lowest-reads.Learnt,
   visit-database-below t,
@@ -660,14 +660,14 @@ visit-job-mul-taken : (t : ℕ) → visit-job-lts.Need-mul-taken (
   databases-rest-reads.Asked,
   databases-rest-reads.Learnt,
 ) (visit-job-at t) visit-job.Post visit-job-Inv-loop visit-job-μ-loop
-visit-job-mul-taken t c = search needs
+visit-job-mul-all t c = search needs
 
--- src/lib.rt:89:17
-visit-job-element-copy-out-taken : (t : ℕ) → visit-job-lts.Need-element-copy-out-taken (
-  databases-of-reads.Asked,
-  databases-of-reads.Learnt,
-  ahead-reads.Asked,
-  ahead-reads.Learnt,
+-- src/lib.rt:92:15
+visit-job-element-copy-out-all : (t : ℕ) → visit-job-lts.Need-element-copy-out-all (
+  without-member-reads.Asked,
+  without-member-reads.Learnt,
+  less-reads.Asked,
+  less-reads.Learnt,
   databases-lowest-reads.Asked,
   databases-lowest-reads.Learnt,
   visit-database-below t,
@@ -675,14 +675,14 @@ visit-job-element-copy-out-taken : (t : ℕ) → visit-job-lts.Need-element-copy
   databases-rest-reads.Asked,
   databases-rest-reads.Learnt,
 ) (visit-job-at t) visit-job.Post visit-job-Inv-loop visit-job-μ-loop
-visit-job-element-copy-out-taken t c = search needs
+visit-job-element-copy-out-all t c = search needs
 
--- src/lib.rt:90:9
-visit-job-databases-of-requires : (t : ℕ) → visit-job-lts.Need-databases-of-requires (
-  databases-of-reads.Asked,
-  databases-of-reads.Learnt,
-  ahead-reads.Asked,
-  ahead-reads.Learnt,
+-- src/lib.rt:93:9
+visit-job-without-member-requires : (t : ℕ) → visit-job-lts.Need-without-member-requires (
+  without-member-reads.Asked,
+  without-member-reads.Learnt,
+  less-reads.Asked,
+  less-reads.Learnt,
   databases-lowest-reads.Asked,
   databases-lowest-reads.Learnt,
   visit-database-below t,
@@ -690,14 +690,14 @@ visit-job-databases-of-requires : (t : ℕ) → visit-job-lts.Need-databases-of-
   databases-rest-reads.Asked,
   databases-rest-reads.Learnt,
 ) (visit-job-at t) visit-job.Post visit-job-Inv-loop visit-job-μ-loop
-visit-job-databases-of-requires t c κs = search needs
+visit-job-without-member-requires t c κs = search needs
 
--- src/lib.rt:91:9
-visit-job-ahead-requires : (t : ℕ) → visit-job-lts.Need-ahead-requires (
-  databases-of-reads.Asked,
-  databases-of-reads.Learnt,
-  ahead-reads.Asked,
-  ahead-reads.Learnt,
+-- src/lib.rt:94:16
+visit-job-less-requires : (t : ℕ) → visit-job-lts.Need-less-requires (
+  without-member-reads.Asked,
+  without-member-reads.Learnt,
+  less-reads.Asked,
+  less-reads.Learnt,
   databases-lowest-reads.Asked,
   databases-lowest-reads.Learnt,
   visit-database-below t,
@@ -705,44 +705,14 @@ visit-job-ahead-requires : (t : ℕ) → visit-job-lts.Need-ahead-requires (
   databases-rest-reads.Asked,
   databases-rest-reads.Learnt,
 ) (visit-job-at t) visit-job.Post visit-job-Inv-loop visit-job-μ-loop
-visit-job-ahead-requires t c κs = search needs
-
--- src/lib.rt:92:5
-visit-job-mul-looked : (t : ℕ) → visit-job-lts.Need-mul-looked (
-  databases-of-reads.Asked,
-  databases-of-reads.Learnt,
-  ahead-reads.Asked,
-  ahead-reads.Learnt,
-  databases-lowest-reads.Asked,
-  databases-lowest-reads.Learnt,
-  visit-database-below t,
-  visit-database.Post,
-  databases-rest-reads.Asked,
-  databases-rest-reads.Learnt,
-) (visit-job-at t) visit-job.Post visit-job-Inv-loop visit-job-μ-loop
-visit-job-mul-looked t c = search needs
-
--- src/lib.rt:92:5
-visit-job-element-write-looked : (t : ℕ) → visit-job-lts.Need-element-write-looked (
-  databases-of-reads.Asked,
-  databases-of-reads.Learnt,
-  ahead-reads.Asked,
-  ahead-reads.Learnt,
-  databases-lowest-reads.Asked,
-  databases-lowest-reads.Learnt,
-  visit-database-below t,
-  visit-database.Post,
-  databases-rest-reads.Asked,
-  databases-rest-reads.Learnt,
-) (visit-job-at t) visit-job.Post visit-job-Inv-loop visit-job-μ-loop
-visit-job-element-write-looked t c = search needs
+visit-job-less-requires t c κs = search needs
 
 -- src/lib.rt:94:5
-visit-job-loop-holds : (t : ℕ) → visit-job-lts.Need-loop-holds (
-  databases-of-reads.Asked,
-  databases-of-reads.Learnt,
-  ahead-reads.Asked,
-  ahead-reads.Learnt,
+visit-job-mul-ahead : (t : ℕ) → visit-job-lts.Need-mul-ahead (
+  without-member-reads.Asked,
+  without-member-reads.Learnt,
+  less-reads.Asked,
+  less-reads.Learnt,
   databases-lowest-reads.Asked,
   databases-lowest-reads.Learnt,
   visit-database-below t,
@@ -750,14 +720,44 @@ visit-job-loop-holds : (t : ℕ) → visit-job-lts.Need-loop-holds (
   databases-rest-reads.Asked,
   databases-rest-reads.Learnt,
 ) (visit-job-at t) visit-job.Post visit-job-Inv-loop visit-job-μ-loop
-visit-job-loop-holds t c = databases-start (taking-ready (c .before .before .before .before .pre .1 .1) (c .before .before .before .before .pre .1 .3) (rw (c .before .databases-of .ensures) at (c .ahead .ensures)))
+visit-job-mul-ahead t c = search needs
 
--- src/lib.rt:95:17
+-- src/lib.rt:94:5
+visit-job-element-write-ahead : (t : ℕ) → visit-job-lts.Need-element-write-ahead (
+  without-member-reads.Asked,
+  without-member-reads.Learnt,
+  less-reads.Asked,
+  less-reads.Learnt,
+  databases-lowest-reads.Asked,
+  databases-lowest-reads.Learnt,
+  visit-database-below t,
+  visit-database.Post,
+  databases-rest-reads.Asked,
+  databases-rest-reads.Learnt,
+) (visit-job-at t) visit-job.Post visit-job-Inv-loop visit-job-μ-loop
+visit-job-element-write-ahead t c = search needs
+
+-- src/lib.rt:96:5
+visit-job-loop-holds : (t : ℕ) → visit-job-lts.Need-loop-holds (
+  without-member-reads.Asked,
+  without-member-reads.Learnt,
+  less-reads.Asked,
+  less-reads.Learnt,
+  databases-lowest-reads.Asked,
+  databases-lowest-reads.Learnt,
+  visit-database-below t,
+  visit-database.Post,
+  databases-rest-reads.Asked,
+  databases-rest-reads.Learnt,
+) (visit-job-at t) visit-job.Post visit-job-Inv-loop visit-job-μ-loop
+visit-job-loop-holds t c = databases-start (taking-ready _ (c .before .before .before .before .pre .1 .1) (c .before .before .before .before .pre .1 .3) (c .before .without-member .ensures) (c .less .ensures))
+
+-- src/lib.rt:97:17
 visit-job-lowest-requires : (t : ℕ) → visit-job-lts.Need-lowest-requires (
-  databases-of-reads.Asked,
-  databases-of-reads.Learnt,
-  ahead-reads.Asked,
-  ahead-reads.Learnt,
+  without-member-reads.Asked,
+  without-member-reads.Learnt,
+  less-reads.Asked,
+  less-reads.Learnt,
   databases-lowest-reads.Asked,
   databases-lowest-reads.Learnt,
   visit-database-below t,
@@ -767,12 +767,12 @@ visit-job-lowest-requires : (t : ℕ) → visit-job-lts.Need-lowest-requires (
 ) (visit-job-at t) visit-job.Post visit-job-Inv-loop visit-job-μ-loop
 visit-job-lowest-requires t c κs = search needs
 
--- src/lib.rt:95:17
+-- src/lib.rt:97:17
 visit-job-cast-u : (t : ℕ) → visit-job-lts.Need-cast-u (
-  databases-of-reads.Asked,
-  databases-of-reads.Learnt,
-  ahead-reads.Asked,
-  ahead-reads.Learnt,
+  without-member-reads.Asked,
+  without-member-reads.Learnt,
+  less-reads.Asked,
+  less-reads.Learnt,
   databases-lowest-reads.Asked,
   databases-lowest-reads.Learnt,
   visit-database-below t,
@@ -781,16 +781,16 @@ visit-job-cast-u : (t : ℕ) → visit-job-lts.Need-cast-u (
   databases-rest-reads.Learnt,
 ) (visit-job-at t) visit-job.Post visit-job-Inv-loop visit-job-μ-loop
 visit-job-cast-u t c =
-    let k = taken-standing (c .before .before .before .before .before .before .before .pre .1 .1) (c .before .before .before .before .before .before .before .pre .1 .3) (rw (c .before .before .before .before .databases-of .ensures) at (c .before .before .before .ahead .ensures)) (c .before .before .before .before .before .before .before .pre .1 .2) (c .lowest .result) (database-taken (c .before .before .before .ahead .ensures .below) (c .before .before .loop .inv) (c .before .loop-test .taken) (c .lowest .ensures)) in
+    let k = taken-standing _ (c .before .before .before .before .before .before .before .pre .1 .1) (c .before .before .before .before .before .before .before .pre .1 .3) (c .before .before .before .before .without-member .ensures) (c .before .before .before .less .ensures) (c .before .before .before .before .before .before .before .pre .1 .2) (c .lowest .result) (database-taken (taken-below _ (c .before .before .before .before .before .before .before .pre .1 .1) (c .before .before .before .before .before .before .before .pre .1 .3) (c .before .before .before .before .without-member .ensures) (c .before .before .before .less .ensures)) (c .before .before .loop .inv) (c .before .loop-test .taken) (c .lowest .ensures)) in
     let u : c .lowest .result < databases = k .database in
     search needs
 
--- src/lib.rt:96:9
+-- src/lib.rt:98:9
 visit-job-visit-database-requires : (t : ℕ) → visit-job-lts.Need-visit-database-requires (
-  databases-of-reads.Asked,
-  databases-of-reads.Learnt,
-  ahead-reads.Asked,
-  ahead-reads.Learnt,
+  without-member-reads.Asked,
+  without-member-reads.Learnt,
+  less-reads.Asked,
+  less-reads.Learnt,
   databases-lowest-reads.Asked,
   databases-lowest-reads.Learnt,
   visit-database-below t,
@@ -799,15 +799,15 @@ visit-job-visit-database-requires : (t : ℕ) → visit-job-lts.Need-visit-datab
   databases-rest-reads.Learnt,
 ) (visit-job-at t) visit-job.Post visit-job-Inv-loop visit-job-μ-loop
 visit-job-visit-database-requires t c κs =
-    let k = taken-standing (c .before .before .before .before .before .before .before .before .before .before .pre .1 .1) (c .before .before .before .before .before .before .before .before .before .before .pre .1 .3) (rw (c .before .before .before .before .before .before .before .databases-of .ensures) at (c .before .before .before .before .before .before .ahead .ensures)) (c .before .before .before .before .before .before .before .before .before .before .pre .1 .2) _ (database-taken (c .before .before .before .before .before .before .ahead .ensures .below) (c .before .before .before .before .before .loop .inv) (c .before .before .before .before .loop-test .taken) (c .before .before .before .lowest .ensures)) in
+    let k = taken-standing _ (c .before .before .before .before .before .before .before .before .before .before .pre .1 .1) (c .before .before .before .before .before .before .before .before .before .before .pre .1 .3) (c .before .before .before .before .before .before .before .without-member .ensures) (c .before .before .before .before .before .before .less .ensures) (c .before .before .before .before .before .before .before .before .before .before .pre .1 .2) _ (database-taken (taken-below _ (c .before .before .before .before .before .before .before .before .before .before .pre .1 .1) (c .before .before .before .before .before .before .before .before .before .before .pre .1 .3) (c .before .before .before .before .before .before .before .without-member .ensures) (c .before .before .before .before .before .before .less .ensures)) (c .before .before .before .before .before .loop .inv) (c .before .before .before .before .loop-test .taken) (c .before .before .before .lowest .ensures)) in
     (omega (arith, unmarked-le (c .before .before .before .before .before .loop .inv .onward), c .before .before .before .before .before .before .before .before .before .before .pre .0), (c .before .before .before .before .before .before .before .before .before .before .pre .1 .0, k, c .before .before .before .before .before .loop .inv .onward .ready))
 
--- src/lib.rt:97:9
+-- src/lib.rt:109:9
 visit-job-rest-requires : (t : ℕ) → visit-job-lts.Need-rest-requires (
-  databases-of-reads.Asked,
-  databases-of-reads.Learnt,
-  ahead-reads.Asked,
-  ahead-reads.Learnt,
+  without-member-reads.Asked,
+  without-member-reads.Learnt,
+  less-reads.Asked,
+  less-reads.Learnt,
   databases-lowest-reads.Asked,
   databases-lowest-reads.Learnt,
   visit-database-below t,
@@ -817,12 +817,12 @@ visit-job-rest-requires : (t : ℕ) → visit-job-lts.Need-rest-requires (
 ) (visit-job-at t) visit-job.Post visit-job-Inv-loop visit-job-μ-loop
 visit-job-rest-requires t c κs = search needs
 
--- src/lib.rt:94:5
+-- src/lib.rt:96:5
 visit-job-loop-less : (t : ℕ) → visit-job-lts.Need-loop-less (
-  databases-of-reads.Asked,
-  databases-of-reads.Learnt,
-  ahead-reads.Asked,
-  ahead-reads.Learnt,
+  without-member-reads.Asked,
+  without-member-reads.Learnt,
+  less-reads.Asked,
+  less-reads.Learnt,
   databases-lowest-reads.Asked,
   databases-lowest-reads.Learnt,
   visit-database-below t,
@@ -830,14 +830,14 @@ visit-job-loop-less : (t : ℕ) → visit-job-lts.Need-loop-less (
   databases-rest-reads.Asked,
   databases-rest-reads.Learnt,
 ) (visit-job-at t) visit-job.Post visit-job-Inv-loop visit-job-μ-loop
-visit-job-loop-less t c = databases-fall (c .before .before .before .before .before .before .before .before .ahead .ensures .below) (c .before .before .before .before .before .before .before .loop .inv) (c .before .before .before .before .before .before .loop-test .taken) (c .before .before .before .before .before .lowest .ensures) (c .rest .ensures)
+visit-job-loop-less t c = databases-fall (taken-below _ (c .before .before .before .before .before .before .before .before .before .before .before .before .pre .1 .1) (c .before .before .before .before .before .before .before .before .before .before .before .before .pre .1 .3) (c .before .before .before .before .before .before .before .before .before .without-member .ensures) (c .before .before .before .before .before .before .before .before .less .ensures)) (c .before .before .before .before .before .before .before .loop .inv) (c .before .before .before .before .before .before .loop-test .taken) (c .before .before .before .before .before .lowest .ensures) (c .rest .ensures)
 
--- src/lib.rt:94:5
+-- src/lib.rt:96:5
 visit-job-loop-again : (t : ℕ) → visit-job-lts.Need-loop-again (
-  databases-of-reads.Asked,
-  databases-of-reads.Learnt,
-  ahead-reads.Asked,
-  ahead-reads.Learnt,
+  without-member-reads.Asked,
+  without-member-reads.Learnt,
+  less-reads.Asked,
+  less-reads.Learnt,
   databases-lowest-reads.Asked,
   databases-lowest-reads.Learnt,
   visit-database-below t,
@@ -845,14 +845,14 @@ visit-job-loop-again : (t : ℕ) → visit-job-lts.Need-loop-again (
   databases-rest-reads.Asked,
   databases-rest-reads.Learnt,
 ) (visit-job-at t) visit-job.Post visit-job-Inv-loop visit-job-μ-loop
-visit-job-loop-again t c = databases-turn (c .before .before .before .before .before .before .before .before .ahead .ensures .below) (c .before .before .before .before .before .before .before .loop .inv) (c .before .before .before .before .before .before .loop-test .taken) (c .before .before .before .before .before .lowest .ensures) (c .rest .ensures) _ (c .before .visit-database .ensures)
+visit-job-loop-again t c = databases-turn (taken-below _ (c .before .before .before .before .before .before .before .before .before .before .before .before .pre .1 .1) (c .before .before .before .before .before .before .before .before .before .before .before .before .pre .1 .3) (c .before .before .before .before .before .before .before .before .before .without-member .ensures) (c .before .before .before .before .before .before .before .before .less .ensures)) (c .before .before .before .before .before .before .before .loop .inv) (c .before .before .before .before .before .before .loop-test .taken) (c .before .before .before .before .before .lowest .ensures) (c .rest .ensures) _ (c .before .visit-database .ensures)
 
--- src/lib.rt:74:1
+-- src/lib.rt:77:1
 visit-job-returns : (t : ℕ) → visit-job-lts.Need-returns (
-  databases-of-reads.Asked,
-  databases-of-reads.Learnt,
-  ahead-reads.Asked,
-  ahead-reads.Learnt,
+  without-member-reads.Asked,
+  without-member-reads.Learnt,
+  less-reads.Asked,
+  less-reads.Learnt,
   databases-lowest-reads.Asked,
   databases-lowest-reads.Learnt,
   visit-database-below t,
@@ -860,7 +860,7 @@ visit-job-returns : (t : ℕ) → visit-job-lts.Need-returns (
   databases-rest-reads.Asked,
   databases-rest-reads.Learnt,
 ) (visit-job-at t) visit-job.Post visit-job-Inv-loop visit-job-μ-loop
-visit-job-returns t c = databases-done (c .before .before .before .before .before .before .pre .1 .1) (c .before .before .before .before .before .before .pre .1 .3) (rw (c .before .before .before .databases-of .ensures) at (c .before .before .ahead .ensures)) (c .before .loop .inv) (c .loop-test .left)
+visit-job-returns t c = databases-done _ (c .before .before .before .before .before .before .pre .1 .1) (c .before .before .before .before .before .before .pre .1 .3) (c .before .before .before .without-member .ensures) (c .before .before .less .ensures) (c .before .loop .inv) (c .loop-test .left)
 
 pub +visit-database+visit-job-spec : {M : Type 1} → statement M
 +visit-database+visit-job-spec = close μ-visit-database μ-visit-job (λ t. visit-database-lts.spec (
@@ -919,10 +919,10 @@ pub +visit-database+visit-job-spec : {M : Type 1} → statement M
     (visit-database-loop-again t)
     (visit-database-returns t))
     λ t. visit-job-lts.spec (
-      databases-of-reads.Asked,
-      databases-of-reads.Learnt,
-      ahead-reads.Asked,
-      ahead-reads.Learnt,
+      without-member-reads.Asked,
+      without-member-reads.Learnt,
+      less-reads.Asked,
+      less-reads.Learnt,
       databases-lowest-reads.Asked,
       databases-lowest-reads.Learnt,
       visit-database-below t,
@@ -935,12 +935,12 @@ pub +visit-database+visit-job-spec : {M : Type 1} → statement M
     visit-job-Inv-loop
     visit-job-μ-loop
     (visit-job-cast-j t)
-    (visit-job-mul-taken t)
-    (visit-job-element-copy-out-taken t)
-    (visit-job-databases-of-requires t)
-    (visit-job-ahead-requires t)
-    (visit-job-mul-looked t)
-    (visit-job-element-write-looked t)
+    (visit-job-mul-all t)
+    (visit-job-element-copy-out-all t)
+    (visit-job-without-member-requires t)
+    (visit-job-less-requires t)
+    (visit-job-mul-ahead t)
+    (visit-job-element-write-ahead t)
     (visit-job-loop-holds t)
     (visit-job-lowest-requires t)
     (visit-job-cast-u t)

@@ -1,22 +1,14 @@
--- The sets that the two visits walk: the databases ahead of a slot, and the slots to try at a database. Assumes nothing.
+-- The slots to try at a database, as the code has them. Assumes nothing.
 use Prim.Native.Nat.{ℕ, _-_, _*_, _%_, _^_, _<_}
 use native.Mathlib.Nat.{le-trans}
-use mathlib.Core.Bool.{Bool, not, _&&_}
-use mathlib.Core.Path.{_≡_, ap, _∙_}
+use mathlib.Core.Path.{_∙_}
 use lib.Bits.{bitAnd, and-le-l}
-use lib.Dec.{eqb}
-use Rattle.mask.specs.Member.{excluding, less}
+use Rattle.mask.specs.Member.{excluding}
 use Rattle.mask.proofs.Change.{excluding-le, excluding-lt, less-lt}
 use Rattle.mask.proofs.Holds.{holds-excluding, holds-less}
 use Rattle.mask.proofs.Words.{and-not-shl}
-use Rattle.search.specs.Limits.{jobs, databases}
-use Rattle.search.specs.Visit.{Ahead, Others}
-
-pub ahead-is : (names looked via : ℕ) → names < 2 ^ databases → looked < 2 ^ databases → Ahead names looked via (excluding (less databases names looked) via)
-ahead-is names looked via a b = record {
-  below = excluding-lt databases (less databases names looked) via (less-lt databases names looked a);
-  members = λ u l. holds-excluding (less databases names looked) via u ∙ ap (λ (x : Bool). not (eqb u via) && x) (holds-less databases names looked u b l);
-}
+use Rattle.search.specs.Limits.{jobs}
+use Rattle.search.specs.Visit.{Others}
 
 pub others-are : (all reached v : ℕ) → all < 2 ^ jobs → reached < 2 ^ jobs → v < jobs
     → Others all reached v (bitAnd (bitAnd all (2 ^ jobs - 1 - 1 * 2 ^ v % 2 ^ jobs)) (2 ^ jobs - 1 - reached))
