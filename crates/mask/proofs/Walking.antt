@@ -1,6 +1,5 @@
 -- Walking the members of a set from low to high is the loop over all numbers, guarded by membership. Assumes nothing.
 use mathlib.Core.Path.{_≡_, refl, sym, ap, _∙_}
-use mathlib.Core.Bool.{Bool, true, false}
 use mathlib.Core.Logic.{_⊎_, inl, inr}
 use Prim.Native.Nat.{ℕ, zero, suc, _^_, _<_}
 use native.Mathlib.Nat.{le-refl, not-suc-le-zero}
@@ -88,16 +87,3 @@ module _ {S : Type 0} (f : ℕ → S → S) where
 
     pub left-done : (m : ℕ) (t : S) → m ≡ 0 → Left n m₀ s m t → t ≡ overMembers n m₀ f s
     left-done m t z h = sym (overMembers-none n t) ∙ rw z at (h .same)
-
-  -- a loop over all numbers whose step does nothing outside of m, where P holds: and P is what every step keeps
-  pub over-is-set : (P : S → Type 0) (n m : ℕ) (s : S) → ((k : ℕ) (t : S) → k < n → P t → P (f k t))
-      → ((k : ℕ) (t : S) → k < n → P t → holds m k ≡ false → f k t ≡ t) → P s → P (over n f s) × (over n f s ≡ overMembers n m f s)
-  unfolding overMembers over
-  over-is-set P zero m s keeps h p = (p, refl)
-  over-is-set P (suc n) m s keeps h p =
-      let ih = over-is-set P n m s (λ k t l q. keeps k t (omega arith) q) (λ k t l q e. h k t (omega arith) q e) p in
-      (keeps n (over n f s) (le-refl (suc n)) (ih .0), by (holds m n) refl (ih .0) ∙ ap (guard (holds m n) (f n)) (ih .1))
-    where
-      by : (b : Bool) → holds m n ≡ b → P (over n f s) → f n (over n f s) ≡ guard (holds m n) (f n) (over n f s)
-      by true e q = sym (guard-yes (holds m n) (f n) (over n f s) e)
-      by false e q = h n (over n f s) (le-refl (suc n)) q e ∙ sym (guard-no (holds m n) (f n) (over n f s) e)

@@ -1,5 +1,5 @@
 -- `Promise`: all that is promised of the opening search. `Opening`: the same of an opening's search, ready to be cited. `Slips`, `Instances`: walks and searches of small graphs.
--- Walks: `Walk`, `Named`, `Engine`. The nested form: `Marking`, `Next`, `Visit`, `Nested`, `Fuel`, `Run`. The machine: `First`, `Choice`, `Trail`, `Invariant`, `Machine`. Both: `Same`.
+-- Walks: `Walk`, `Named`, `Engine`. The nested form: `Marking`, `Next`, `Visit`, `Nested`. The machine: `First`, `Choice`, `Trail`, `Invariant`, `Machine`. Both: `Same`.
 pub mod Walk
 pub mod Named
 pub mod Engine
@@ -7,8 +7,6 @@ pub mod Marking
 pub mod Next
 pub mod Visit
 pub mod Nested
-pub mod Fuel
-pub mod Run
 pub mod First
 pub mod Choice
 pub mod Trail

@@ -16,14 +16,13 @@ use Rattle.walks.specs.Marks.{count}
 use Rattle.walks.specs.Walk.{Graph, Reach, WalkEnd, others, named}
 use Rattle.walks.specs.Rows.{rows}
 use Rattle.walks.specs.Machine.{machine}
-use Rattle.walks.specs.Search.{Seek, fresh, run}
+use Rattle.walks.specs.Search.{Seek}
 use Rattle.walks.specs.Engine.{Engine}
 use Rattle.walks.specs.Opening.{opening, FoundAt}
 use Rattle.walks.specs.Promise.{Right, left}
 use Rattle.walks.proofs.Walk.{reach-job}
 use Rattle.walks.proofs.Engine.{engine-right}
 use Rattle.walks.proofs.Nested.{search-good, search-engine}
-use Rattle.walks.proofs.Run.{search-run}
 use Rattle.walks.proofs.Same.{engine-rows, machine-rows}
 
 -- how many pairs rows have: the members of every row
@@ -60,9 +59,6 @@ module _ (G : Graph) (new : G .new < G .jobs) where
   pub opening-engine : (s : Seek (rows (G .jobs) (G .databases))) → length (s .reached) ≡ G .databases → length (s .found) ≡ G .databases
       → Engine G (λ w u. holds (getD (s .reached) u 0) w) (λ v u. holds (getD (s .found) u 0) v) (s .moves) → s ≡ opening G
   opening-engine s r f E = engine-rows G new (G .jobs * G .databases + 1) enough s (r, f) E
-
-  pub opening-run : opening G ≡ run G (rows (G .jobs) (G .databases)) (G .new) (G .databases) (fresh (rows (G .jobs) (G .databases)))
-  opening-run = search-run G (rows (G .jobs) (G .databases)) (G .jobs * G .databases + 1) new enough
 
   pub reached-iff : (w u : ℕ) → (holds (getD (opening G .reached) u 0) w ≡ true) ↔ Reach G w u
   reached-iff = opening-right .reached

@@ -47,7 +47,7 @@ pub record Promise (G : Graph) : Type 1 where
   -- at its end its marks and moves are right
   pub right : (K : Marks (G .jobs) (G .databases)) (k : ℕ) → 3 * named G ≤ k
       → Right G (K .has (machine G K k .reached)) (K .has (machine G K k .found)) (machine G K k .moves)
-  -- the nested form, which the code has, gives the same marks and the same moves, however the sets are kept; with rows all that it leaves is equal
+  -- the nested form gives the same marks and the same moves, however the sets are kept; with rows all that it leaves is equal
   pub nested : (K H : Marks (G .jobs) (G .databases)) (k f : ℕ) → 3 * named G ≤ k → G .jobs * G .databases < f
       → Alike G (K .has (machine G K k .reached)) (K .has (machine G K k .found)) (machine G K k .moves)
       (H .has (openingSearch G H f .reached)) (H .has (openingSearch G H f .found)) (openingSearch G H f .moves)

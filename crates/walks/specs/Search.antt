@@ -1,10 +1,10 @@
--- The opening search in the form that the code has: visiting a job loops over its databases, visiting a database loops over jobs.
--- Here no choice is looked for anew: each loop goes on where it was. Assumes nothing.
-use Prim.Native.Nat.{ℕ, zero, suc, _*_, _-_}
+-- The opening search in nested form: visiting a job loops over its databases, visiting a database loops over jobs.
+-- Here no choice is looked for anew: each loop goes on where it was. The code is nested so too, and looks through each pair of a job and a database only once. Assumes nothing.
+use Prim.Native.Nat.{ℕ, zero, suc}
 use mathlib.Core.Bool.{Bool, not, _&&_}
 use lib.Dec.{eqb}
 use Rattle.loops.specs.Loop.{over, guard, choice}
-use Rattle.walks.specs.Marks.{Marks, count}
+use Rattle.walks.specs.Marks.{Marks}
 use Rattle.walks.specs.Walk.{Graph}
 
 pub record Seek {J D : ℕ} (K : Marks J D) : Type 0 where
@@ -55,10 +55,6 @@ module _ (G : Graph) (K : Marks (G .jobs) (G .databases)) where
   unfoldable pub visit : ℕ → ℕ → ℕ → Seek K → Seek K
   visit zero v t s = s
   visit (suc f) v t s = over (G .databases) (pass (visit f) v t) s
-
-  -- the same with just enough fuel: one more than the pairs that are not reached
-  unfoldable pub run : ℕ → ℕ → Seek K → Seek K
-  run v t s = visit (suc (G .jobs * G .databases - count K (s .reached))) v t s
 
   -- the new job is reached through no database: `databases` is none
   unfoldable pub openingSearch : ℕ → Seek K
