@@ -26,9 +26,6 @@ putIn sets u w = set sets u (bitOr (getD sets u 0) (1 * 2 ^ w % 2 ^ 32))
 put-is : (sets : List ℕ) (u w : ℕ) → w < jobs → putIn sets u w ≡ marks .put sets w u
 put-is sets u w l = rw (or-shl 32 (getD sets u 0) w l)
 
-pub so-far-is : {a b c d e f : List ℕ} {m k : ℕ} → a ≡ b → c ≡ d → e ≡ f → m ≡ k → soFar a c e m ≡ soFar b d f k
-so-far-is p q r z = rw (p, q, r, z)
-
 -- from v through u to w
 
 module _ {named dependencies : List ℕ} {n v u : ℕ} (at : Standing named dependencies n v u) {s : SoFar} (h : Ready named dependencies n s) {w : ℕ} where

@@ -5,13 +5,14 @@ use native.Mathlib.Omega.{arith}
 use mathlib.Core.Bool.{Bool, true, false, not, _&&_}
 use mathlib.Core.List.{List}
 use mathlib.Core.Logic.{_⊎_, inl, inr}
-use mathlib.Core.Path.{_≡_, refl, sym, ap, _∙_}
+use mathlib.Core.Path.{_≡_, refl, sym, _∙_}
 use borrow.Author.Tests.{eqb-true, eqb-false, ne-eqb, not-true}
 use lib.Dec.{eqb}
 use lib.ListN.{getD}
 use Rattle.loops.proofs.Tests.{both, and-left, and-right}
 use Rattle.mask.specs.Member.{digit, holds, excluding, lowest}
 use Rattle.mask.specs.Lowest.{Lowest}
+use Rattle.mask.proofs.Change.{excluding-lt}
 use Rattle.mask.proofs.Holds.{holds-of, holds-below, holds-none, holds-excluding}
 use Rattle.mask.proofs.Lowest.{trailing-lowest, lowest-holds}
 use Rattle.mask.proofs.Walking.{rest-falls}
@@ -41,9 +42,6 @@ pub record AtSlots (named dependencies : List ℕ) (n v u : ℕ) (s t : SoFar) (
 pub record Turned (named dependencies : List ℕ) (n v u w : ℕ) (t r : SoFar) : Type 0 where
   pub onward : Onward named dependencies n t r
   pub hit : Link (graph named dependencies n) u v w → Hit (graph named dependencies n) marks (r .reached) (r .found) v u w
-
-pub turned-is : {named dependencies : List ℕ} {n v u w : ℕ} {t r z : SoFar} → z ≡ r → Turned named dependencies n v u w t r → Turned named dependencies n v u w t z
-turned-is e k = rw e k
 
 module _ {all reached v m : ℕ} (o : Others all reached v m) (w : ℕ) (e : holds m w ≡ true) where
   tried : (not (eqb w v) && holds all w) && not (holds reached w) ≡ true
@@ -129,33 +127,54 @@ module _ {named dependencies : List ℕ} {n v u : ℕ} {s t : SoFar} {m : ℕ} (
           hit = λ l. forward-hit st (at .onward .ready) old slot-link (slot-fresh .absent) k;
         }
 
-    -- x is left of m without w, and k is to try of it
+    -- x is left of m without w
 
-    module _ {x y k : ℕ} (p : x ≡ excluding m (lowest jobs m)) (o : Others x y v k) where
-      pub slots-fall : k < m
-      slots-fall = lt-of-le-of-lt (o .most) (rw (p, ← e) (rest-falls low))
+    module _ {x : ℕ} (p : x ≡ excluding m (lowest jobs m)) where
+      pub rest-less : x < m
+      rest-less = rw (p, ← e) (rest-falls low)
 
       kept : (j : ℕ) → holds x j ≡ not (eqb j w) && holds m j
       kept j = rw (p, ← e) (holds-excluding m w j)
 
-      pub slots-turn : (r : SoFar) → y ≡ getD (r .reached) u 0 → Turned named dependencies n v u w t r → AtSlots named dependencies n v u s r k
-      slots-turn r z now = record {
+      kept-in : (j : ℕ) → holds x j ≡ true → holds m j ≡ true
+      kept-in j q = and-right (not (eqb j w)) (holds m j) (sym (kept j) ∙ q)
+
+      -- what is left to try beside w, or made
+      kept-left : {r : SoFar} → Turned named dependencies n v u w t r → (j : ℕ) → Link (graph named dependencies n) u v j
+          → (holds x j ≡ true) ⊎ Hit (graph named dependencies n) marks (r .reached) (r .found) v u j
+      kept-left {r} now j l = by (eqb j w) refl (at .left j l)
+        where
+          by : (b : Bool) → eqb j w ≡ b → (holds m j ≡ true) ⊎ Hit (graph named dependencies n) marks (t .reached) (t .found) v u j
+              → (holds x j ≡ true) ⊎ Hit (graph named dependencies n) marks (r .reached) (r .found) v u j
+          by true q h = inr (rw (eqb-true j w q) (now .hit (rw (eqb-true j w q) at l)))
+          by false q (inr h) = inr (hit-on (now .onward) h)
+          by false q (inl h) = inl (kept j ∙ rw (q, h))
+
+      -- nothing more is reached
+      pub slots-rest : {r : SoFar} → r .reached ≡ t .reached → Turned named dependencies n v u w t r → AtSlots named dependencies n v u s r x
+      slots-rest same now = record {
+        onward = onward-then (at .onward) (now .onward);
+        below = rw p (excluding-lt jobs m (lowest jobs m) (at .below));
+        fresh = λ j q. rw same (at .fresh j (kept-in j q));
+        left = kept-left now;
+      }
+
+      -- k is to try of x, once more is reached
+      pub slots-turn : {r : SoFar} {k : ℕ} → Others x (getD (r .reached) u 0) v k → Turned named dependencies n v u w t r → AtSlots named dependencies n v u s r k
+      slots-turn {r} {k} o now = record {
         onward = onward-then (at .onward) (now .onward);
         below = o .below;
-        fresh = λ j q. record {
-          names = at .fresh j (and-right (not (eqb j w)) (holds m j) (sym (kept j) ∙ of-all o j q)) .names;
-          differs = not-own o j q;
-          absent = ap (λ (a : ℕ). holds a j) (sym z) ∙ unreached o j q;
-        };
-        left = λ j l. by j l (eqb j w) refl (at .left j l);
+        fresh = λ j q. record { names = at .fresh j (kept-in j (of-all o j q)) .names; differs = not-own o j q; absent = unreached o j q };
+        left = λ j l. by j l (kept-left now j l);
       }
         where
-          by : (j : ℕ) → Link (graph named dependencies n) u v j → (b : Bool) → eqb j w ≡ b
-              → (holds m j ≡ true) ⊎ Hit (graph named dependencies n) marks (t .reached) (t .found) v u j
+          by : (j : ℕ) → Link (graph named dependencies n) u v j → (holds x j ≡ true) ⊎ Hit (graph named dependencies n) marks (r .reached) (r .found) v u j
               → (holds k j ≡ true) ⊎ Hit (graph named dependencies n) marks (r .reached) (r .found) v u j
-          by j l true q h = inr (rw (eqb-true j w q) (now .hit (rw (eqb-true j w q) at l)))
-          by j l false q (inr h) = inr (hit-on (now .onward) h)
-          by j l false q (inl h) = try-or-hit (now .onward .ready) (rw z at o) j (l .job) (l .differ) (kept j ∙ rw (q, h))
+          by j l (inl h) = try-or-hit (now .onward .ready) o j (l .job) (l .differ) h
+          by j l (inr h) = inr h
+
+      pub others-less : {y z : ℕ} → Others x y v z → z < m
+      others-less o = lt-of-le-of-lt (o .most) rest-less
 
   pub slots-done : m ≡ 0 → DatabaseVisited named dependencies n v u s t
   slots-done z = record { onward = at .onward; through = record { hits = λ w l. by w (at .left w l) } }

@@ -119,7 +119,7 @@ fn others(all: u32, reached: u32, v: Slot) -> u32
     all & !(1 << v.0) & !reached
 }
 
-// From database u, come to from slot v which names it, to the other slots that name it.
+// From database u, come to from slot v which names it, to the other slots that name it. A visit reaches more of them: these are taken off what is left.
 fn visit_database(
     named: &[u32; Database::COUNT],
     dependencies: &[u32; STEPS],
@@ -140,6 +140,7 @@ fn visit_database(
     while m != 0 {
         let low = mask::slots::lowest(m) as u8;
         let w = Slot(low);
+        m = mask::slots::rest(m);
         let at = k * Slot::COUNT + w.0 as usize;
         if (dependencies[at] >> v.0) % 2 != 1 {
             if w.0 == n.0 {
@@ -152,9 +153,9 @@ fn visit_database(
                 let x = reached[k];
                 reached[k] = x | 1 << w.0;
                 t = visit_job(named, dependencies, ahead, reached, found, n, w, u, t + 1) + 1;
+                m = others(m, reached[k], v);
             }
         }
-        m = others(mask::slots::rest(m), reached[k], v);
     }
     t
 }

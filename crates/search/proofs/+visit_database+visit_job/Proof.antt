@@ -1,13 +1,11 @@
 use borrow.Author.Needs.{needs}
 use mathlib.Core.Path.{refl}
-use mathlib.Core.Logic.{⊎-elim}
 use Prim.Native.Nat.{_+_, _*_, _^_, _<_}
 use native.Mathlib.Omega.{arith}
 use Rattle.search.specs.Limits.{jobs, databases}
 use Rattle.search.specs.Visit.{soFar, unmarked}
 use Rattle.search.proofs.Onward.{room, unmarked-le}
-use Rattle.search.proofs.Moves.{so-far-is}
-use Rattle.search.proofs.Slots.{AtSlots, turned-is, slots-start, slot-below, turn-held, turn-found, turn-closes, forward-asked, turn-forward, slots-fall, slots-turn, slots-done}
+use Rattle.search.proofs.Slots.{AtSlots, slots-start, slot-below, turn-held, turn-found, turn-closes, forward-asked, turn-forward, rest-less, others-less, slots-rest, slots-turn, slots-done}
 use Rattle.search.proofs.Databases.{AtDatabases, databases-start, taken-below, taking-ready, taken-standing, databases-done, database-taken, databases-fall, databases-turn}
 use Prim.Native.Nat.{ℕ, _<_}
 use borrow.Fn.Kinds.{In}
@@ -71,10 +69,10 @@ visit-database-cast-k : (t : ℕ) → visit-database-lts.Need-cast-k (
   others-reads.Learnt,
   slots-lowest-reads.Asked,
   slots-lowest-reads.Learnt,
-  visit-job-below t,
-  visit-job.Post,
   slots-rest-reads.Asked,
   slots-rest-reads.Learnt,
+  visit-job-below t,
+  visit-job.Post,
 ) (visit-database-at t) visit-database.Post visit-database-Inv-loop visit-database-μ-loop
 visit-database-cast-k t c = search needs
 
@@ -84,10 +82,10 @@ visit-database-mul-others : (t : ℕ) → visit-database-lts.Need-mul-others (
   others-reads.Learnt,
   slots-lowest-reads.Asked,
   slots-lowest-reads.Learnt,
-  visit-job-below t,
-  visit-job.Post,
   slots-rest-reads.Asked,
   slots-rest-reads.Learnt,
+  visit-job-below t,
+  visit-job.Post,
 ) (visit-database-at t) visit-database.Post visit-database-Inv-loop visit-database-μ-loop
 visit-database-mul-others t c = search needs
 
@@ -97,10 +95,10 @@ visit-database-element-copy-out-others : (t : ℕ) → visit-database-lts.Need-e
   others-reads.Learnt,
   slots-lowest-reads.Asked,
   slots-lowest-reads.Learnt,
-  visit-job-below t,
-  visit-job.Post,
   slots-rest-reads.Asked,
   slots-rest-reads.Learnt,
+  visit-job-below t,
+  visit-job.Post,
 ) (visit-database-at t) visit-database.Post visit-database-Inv-loop visit-database-μ-loop
 visit-database-element-copy-out-others t c = search needs
 
@@ -110,10 +108,10 @@ visit-database-mul-others-2 : (t : ℕ) → visit-database-lts.Need-mul-others-2
   others-reads.Learnt,
   slots-lowest-reads.Asked,
   slots-lowest-reads.Learnt,
-  visit-job-below t,
-  visit-job.Post,
   slots-rest-reads.Asked,
   slots-rest-reads.Learnt,
+  visit-job-below t,
+  visit-job.Post,
 ) (visit-database-at t) visit-database.Post visit-database-Inv-loop visit-database-μ-loop
 visit-database-mul-others-2 t c = search needs
 
@@ -124,10 +122,10 @@ visit-database-element-copy-out-others-2 :
       others-reads.Learnt,
       slots-lowest-reads.Asked,
       slots-lowest-reads.Learnt,
-      visit-job-below t,
-      visit-job.Post,
       slots-rest-reads.Asked,
       slots-rest-reads.Learnt,
+      visit-job-below t,
+      visit-job.Post,
     ) (visit-database-at t) visit-database.Post visit-database-Inv-loop visit-database-μ-loop
 visit-database-element-copy-out-others-2 t c = search needs
 
@@ -137,10 +135,10 @@ visit-database-others-requires : (t : ℕ) → visit-database-lts.Need-others-re
   others-reads.Learnt,
   slots-lowest-reads.Asked,
   slots-lowest-reads.Learnt,
-  visit-job-below t,
-  visit-job.Post,
   slots-rest-reads.Asked,
   slots-rest-reads.Learnt,
+  visit-job-below t,
+  visit-job.Post,
 ) (visit-database-at t) visit-database.Post visit-database-Inv-loop visit-database-μ-loop
 visit-database-others-requires t c κs = search needs
 
@@ -150,10 +148,10 @@ visit-database-loop-holds : (t : ℕ) → visit-database-lts.Need-loop-holds (
   others-reads.Learnt,
   slots-lowest-reads.Asked,
   slots-lowest-reads.Learnt,
-  visit-job-below t,
-  visit-job.Post,
   slots-rest-reads.Asked,
   slots-rest-reads.Learnt,
+  visit-job-below t,
+  visit-job.Post,
 ) (visit-database-at t) visit-database.Post visit-database-Inv-loop visit-database-μ-loop
 visit-database-loop-holds t c = slots-start (c .before .before .before .before .pre .1 .2) (c .others .ensures)
 
@@ -163,10 +161,10 @@ visit-database-lowest-requires : (t : ℕ) → visit-database-lts.Need-lowest-re
   others-reads.Learnt,
   slots-lowest-reads.Asked,
   slots-lowest-reads.Learnt,
-  visit-job-below t,
-  visit-job.Post,
   slots-rest-reads.Asked,
   slots-rest-reads.Learnt,
+  visit-job-below t,
+  visit-job.Post,
 ) (visit-database-at t) visit-database.Post visit-database-Inv-loop visit-database-μ-loop
 visit-database-lowest-requires t c κs = search needs
 
@@ -176,408 +174,243 @@ visit-database-cast-low : (t : ℕ) → visit-database-lts.Need-cast-low (
   others-reads.Learnt,
   slots-lowest-reads.Asked,
   slots-lowest-reads.Learnt,
-  visit-job-below t,
-  visit-job.Post,
   slots-rest-reads.Asked,
   slots-rest-reads.Learnt,
+  visit-job-below t,
+  visit-job.Post,
 ) (visit-database-at t) visit-database.Post visit-database-Inv-loop visit-database-μ-loop
 visit-database-cast-low t c =
     let w : c .lowest .result < jobs = slot-below (c .before .before .loop .inv) (c .before .loop-test .taken) (c .lowest .ensures) in
     search needs
 
--- src/lib.rt:143:18
-visit-database-mul-at : (t : ℕ) → visit-database-lts.Need-mul-at (
-  others-reads.Asked,
-  others-reads.Learnt,
-  slots-lowest-reads.Asked,
-  slots-lowest-reads.Learnt,
-  visit-job-below t,
-  visit-job.Post,
-  slots-rest-reads.Asked,
-  slots-rest-reads.Learnt,
-) (visit-database-at t) visit-database.Post visit-database-Inv-loop visit-database-μ-loop
-visit-database-mul-at t c = search needs
-
--- src/lib.rt:143:36
-visit-database-cast-at : (t : ℕ) → visit-database-lts.Need-cast-at (
-  others-reads.Asked,
-  others-reads.Learnt,
-  slots-lowest-reads.Asked,
-  slots-lowest-reads.Learnt,
-  visit-job-below t,
-  visit-job.Post,
-  slots-rest-reads.Asked,
-  slots-rest-reads.Learnt,
-) (visit-database-at t) visit-database.Post visit-database-Inv-loop visit-database-μ-loop
-visit-database-cast-at t c = search needs
-
--- src/lib.rt:143:18
-visit-database-add-at : (t : ℕ) → visit-database-lts.Need-add-at (
-  others-reads.Asked,
-  others-reads.Learnt,
-  slots-lowest-reads.Asked,
-  slots-lowest-reads.Learnt,
-  visit-job-below t,
-  visit-job.Post,
-  slots-rest-reads.Asked,
-  slots-rest-reads.Learnt,
-) (visit-database-at t) visit-database.Post visit-database-Inv-loop visit-database-μ-loop
-visit-database-add-at t c =
-    let w : c .before .lowest .result < jobs = slot-below (c .before .before .before .loop .inv) (c .before .before .loop-test .taken) (c .before .lowest .ensures) in
-    search needs
-
--- src/lib.rt:144:13
-visit-database-mul-if1 : (t : ℕ) → visit-database-lts.Need-mul-if1 (
-  others-reads.Asked,
-  others-reads.Learnt,
-  slots-lowest-reads.Asked,
-  slots-lowest-reads.Learnt,
-  visit-job-below t,
-  visit-job.Post,
-  slots-rest-reads.Asked,
-  slots-rest-reads.Learnt,
-) (visit-database-at t) visit-database.Post visit-database-Inv-loop visit-database-μ-loop
-visit-database-mul-if1 t c =
-    let w : c .before .lowest .result < jobs = slot-below (c .before .before .before .loop .inv) (c .before .before .loop-test .taken) (c .before .lowest .ensures) in
-    search needs
-
--- src/lib.rt:144:13
-visit-database-element-copy-out-if1 : (t : ℕ) → visit-database-lts.Need-element-copy-out-if1 (
-  others-reads.Asked,
-  others-reads.Learnt,
-  slots-lowest-reads.Asked,
-  slots-lowest-reads.Learnt,
-  visit-job-below t,
-  visit-job.Post,
-  slots-rest-reads.Asked,
-  slots-rest-reads.Learnt,
-) (visit-database-at t) visit-database.Post visit-database-Inv-loop visit-database-μ-loop
-visit-database-element-copy-out-if1 t c =
-    let w : c .before .lowest .result < jobs = slot-below (c .before .before .before .loop .inv) (c .before .before .loop-test .taken) (c .before .lowest .ensures) in
-    search needs
-
--- src/lib.rt:144:33
-visit-database-cast-if1 : (t : ℕ) → visit-database-lts.Need-cast-if1 (
-  others-reads.Asked,
-  others-reads.Learnt,
-  slots-lowest-reads.Asked,
-  slots-lowest-reads.Learnt,
-  visit-job-below t,
-  visit-job.Post,
-  slots-rest-reads.Asked,
-  slots-rest-reads.Learnt,
-) (visit-database-at t) visit-database.Post visit-database-Inv-loop visit-database-μ-loop
-visit-database-cast-if1 t c = search needs
-
--- src/lib.rt:144:13
-visit-database-shr-if1 : (t : ℕ) → visit-database-lts.Need-shr-if1 (
-  others-reads.Asked,
-  others-reads.Learnt,
-  slots-lowest-reads.Asked,
-  slots-lowest-reads.Learnt,
-  visit-job-below t,
-  visit-job.Post,
-  slots-rest-reads.Asked,
-  slots-rest-reads.Learnt,
-) (visit-database-at t) visit-database.Post visit-database-Inv-loop visit-database-μ-loop
-visit-database-shr-if1 t c = search needs
-
--- src/lib.rt:146:25
-visit-database-mul-x : (t : ℕ) → visit-database-lts.Need-mul-x (
-  others-reads.Asked,
-  others-reads.Learnt,
-  slots-lowest-reads.Asked,
-  slots-lowest-reads.Learnt,
-  visit-job-below t,
-  visit-job.Post,
-  slots-rest-reads.Asked,
-  slots-rest-reads.Learnt,
-) (visit-database-at t) visit-database.Post visit-database-Inv-loop visit-database-μ-loop
-visit-database-mul-x t c = search needs
-
--- src/lib.rt:146:25
-visit-database-element-copy-out-x : (t : ℕ) → visit-database-lts.Need-element-copy-out-x (
-  others-reads.Asked,
-  others-reads.Learnt,
-  slots-lowest-reads.Asked,
-  slots-lowest-reads.Learnt,
-  visit-job-below t,
-  visit-job.Post,
-  slots-rest-reads.Asked,
-  slots-rest-reads.Learnt,
-) (visit-database-at t) visit-database.Post visit-database-Inv-loop visit-database-μ-loop
-visit-database-element-copy-out-x t c = search needs
-
--- src/lib.rt:147:26
-visit-database-cast-if3 : (t : ℕ) → visit-database-lts.Need-cast-if3 (
-  others-reads.Asked,
-  others-reads.Learnt,
-  slots-lowest-reads.Asked,
-  slots-lowest-reads.Learnt,
-  visit-job-below t,
-  visit-job.Post,
-  slots-rest-reads.Asked,
-  slots-rest-reads.Learnt,
-) (visit-database-at t) visit-database.Post visit-database-Inv-loop visit-database-μ-loop
-visit-database-cast-if3 t c = search needs
-
--- src/lib.rt:147:21
-visit-database-shr-if3 : (t : ℕ) → visit-database-lts.Need-shr-if3 (
-  others-reads.Asked,
-  others-reads.Learnt,
-  slots-lowest-reads.Asked,
-  slots-lowest-reads.Learnt,
-  visit-job-below t,
-  visit-job.Post,
-  slots-rest-reads.Asked,
-  slots-rest-reads.Learnt,
-) (visit-database-at t) visit-database.Post visit-database-Inv-loop visit-database-μ-loop
-visit-database-shr-if3 t c = search needs
-
--- src/lib.rt:148:41
-visit-database-cast-found : (t : ℕ) → visit-database-lts.Need-cast-found (
-  others-reads.Asked,
-  others-reads.Learnt,
-  slots-lowest-reads.Asked,
-  slots-lowest-reads.Learnt,
-  visit-job-below t,
-  visit-job.Post,
-  slots-rest-reads.Asked,
-  slots-rest-reads.Learnt,
-) (visit-database-at t) visit-database.Post visit-database-Inv-loop visit-database-μ-loop
-visit-database-cast-found t c = search needs
-
--- src/lib.rt:148:36
-visit-database-shl-found : (t : ℕ) → visit-database-lts.Need-shl-found (
-  others-reads.Asked,
-  others-reads.Learnt,
-  slots-lowest-reads.Asked,
-  slots-lowest-reads.Learnt,
-  visit-job-below t,
-  visit-job.Post,
-  slots-rest-reads.Asked,
-  slots-rest-reads.Learnt,
-) (visit-database-at t) visit-database.Post visit-database-Inv-loop visit-database-μ-loop
-visit-database-shl-found t c = search needs
-
--- src/lib.rt:148:21
-visit-database-mul-found : (t : ℕ) → visit-database-lts.Need-mul-found (
-  others-reads.Asked,
-  others-reads.Learnt,
-  slots-lowest-reads.Asked,
-  slots-lowest-reads.Learnt,
-  visit-job-below t,
-  visit-job.Post,
-  slots-rest-reads.Asked,
-  slots-rest-reads.Learnt,
-) (visit-database-at t) visit-database.Post visit-database-Inv-loop visit-database-μ-loop
-visit-database-mul-found t c = search needs
-
--- src/lib.rt:148:21
-visit-database-element-write-found : (t : ℕ) → visit-database-lts.Need-element-write-found (
-  others-reads.Asked,
-  others-reads.Learnt,
-  slots-lowest-reads.Asked,
-  slots-lowest-reads.Learnt,
-  visit-job-below t,
-  visit-job.Post,
-  slots-rest-reads.Asked,
-  slots-rest-reads.Learnt,
-) (visit-database-at t) visit-database.Post visit-database-Inv-loop visit-database-μ-loop
-visit-database-element-write-found t c = search needs
-
--- src/lib.rt:149:25
-visit-database-add-t : (t : ℕ) → visit-database-lts.Need-add-t (
-  others-reads.Asked,
-  others-reads.Learnt,
-  slots-lowest-reads.Asked,
-  slots-lowest-reads.Learnt,
-  visit-job-below t,
-  visit-job.Post,
-  slots-rest-reads.Asked,
-  slots-rest-reads.Learnt,
-) (visit-database-at t) visit-database.Post visit-database-Inv-loop visit-database-μ-loop
-visit-database-add-t t c =
-    let f : c .before .before .before .before .before .before .before .before .before .before .before .before .before .loop .t + 1 < 2 ^ 32 = room (c .before .before .before .before .before .before .before .before .before .before .before .before .before .loop .inv .onward .ready) in
-    search needs
-
--- src/lib.rt:152:25
-visit-database-mul-x-2 : (t : ℕ) → visit-database-lts.Need-mul-x-2 (
-  others-reads.Asked,
-  others-reads.Learnt,
-  slots-lowest-reads.Asked,
-  slots-lowest-reads.Learnt,
-  visit-job-below t,
-  visit-job.Post,
-  slots-rest-reads.Asked,
-  slots-rest-reads.Learnt,
-) (visit-database-at t) visit-database.Post visit-database-Inv-loop visit-database-μ-loop
-visit-database-mul-x-2 t c = search needs
-
--- src/lib.rt:152:25
-visit-database-element-copy-out-x-2 : (t : ℕ) → visit-database-lts.Need-element-copy-out-x-2 (
-  others-reads.Asked,
-  others-reads.Learnt,
-  slots-lowest-reads.Asked,
-  slots-lowest-reads.Learnt,
-  visit-job-below t,
-  visit-job.Post,
-  slots-rest-reads.Asked,
-  slots-rest-reads.Learnt,
-) (visit-database-at t) visit-database.Post visit-database-Inv-loop visit-database-μ-loop
-visit-database-element-copy-out-x-2 t c = search needs
-
--- src/lib.rt:153:39
-visit-database-cast-reached : (t : ℕ) → visit-database-lts.Need-cast-reached (
-  others-reads.Asked,
-  others-reads.Learnt,
-  slots-lowest-reads.Asked,
-  slots-lowest-reads.Learnt,
-  visit-job-below t,
-  visit-job.Post,
-  slots-rest-reads.Asked,
-  slots-rest-reads.Learnt,
-) (visit-database-at t) visit-database.Post visit-database-Inv-loop visit-database-μ-loop
-visit-database-cast-reached t c = search needs
-
--- src/lib.rt:153:34
-visit-database-shl-reached : (t : ℕ) → visit-database-lts.Need-shl-reached (
-  others-reads.Asked,
-  others-reads.Learnt,
-  slots-lowest-reads.Asked,
-  slots-lowest-reads.Learnt,
-  visit-job-below t,
-  visit-job.Post,
-  slots-rest-reads.Asked,
-  slots-rest-reads.Learnt,
-) (visit-database-at t) visit-database.Post visit-database-Inv-loop visit-database-μ-loop
-visit-database-shl-reached t c =
-    let w : c .before .before .before .before .before .before .before .before .before .lowest .result < jobs = slot-below (c .before .before .before .before .before .before .before .before .before .before .before .loop .inv) (c .before .before .before .before .before .before .before .before .before .before .loop-test .taken) (c .before .before .before .before .before .before .before .before .before .lowest .ensures) in
-    search needs
-
--- src/lib.rt:153:17
-visit-database-mul-reached : (t : ℕ) → visit-database-lts.Need-mul-reached (
-  others-reads.Asked,
-  others-reads.Learnt,
-  slots-lowest-reads.Asked,
-  slots-lowest-reads.Learnt,
-  visit-job-below t,
-  visit-job.Post,
-  slots-rest-reads.Asked,
-  slots-rest-reads.Learnt,
-) (visit-database-at t) visit-database.Post visit-database-Inv-loop visit-database-μ-loop
-visit-database-mul-reached t c = search needs
-
--- src/lib.rt:153:17
-visit-database-element-write-reached : (t : ℕ) → visit-database-lts.Need-element-write-reached (
-  others-reads.Asked,
-  others-reads.Learnt,
-  slots-lowest-reads.Asked,
-  slots-lowest-reads.Learnt,
-  visit-job-below t,
-  visit-job.Post,
-  slots-rest-reads.Asked,
-  slots-rest-reads.Learnt,
-) (visit-database-at t) visit-database.Post visit-database-Inv-loop visit-database-μ-loop
-visit-database-element-write-reached t c = search needs
-
--- src/lib.rt:154:84
-visit-database-add-visit-job : (t : ℕ) → visit-database-lts.Need-add-visit-job (
-  others-reads.Asked,
-  others-reads.Learnt,
-  slots-lowest-reads.Asked,
-  slots-lowest-reads.Learnt,
-  visit-job-below t,
-  visit-job.Post,
-  slots-rest-reads.Asked,
-  slots-rest-reads.Learnt,
-) (visit-database-at t) visit-database.Post visit-database-Inv-loop visit-database-μ-loop
-visit-database-add-visit-job t c =
-    let f : c .before .before .before .before .before .before .before .before .before .before .before .before .before .before .loop .t + 1 < 2 ^ 32 = room (c .before .before .before .before .before .before .before .before .before .before .before .before .before .before .loop .inv .onward .ready) in
-    search needs
-
--- src/lib.rt:154:21
-visit-database-visit-job-requires : (t : ℕ) → visit-database-lts.Need-visit-job-requires (
-  others-reads.Asked,
-  others-reads.Learnt,
-  slots-lowest-reads.Asked,
-  slots-lowest-reads.Learnt,
-  visit-job-below t,
-  visit-job.Post,
-  slots-rest-reads.Asked,
-  slots-rest-reads.Learnt,
-) (visit-database-at t) visit-database.Post visit-database-Inv-loop visit-database-μ-loop
-visit-database-visit-job-requires t c κs =
-    let q = forward-asked (c .before .before .before .before .before .before .before .before .before .before .before .before .before .before .loop .inv) (c .before .before .before .before .before .before .before .before .before .before .before .before .before .loop-test .taken) (c .before .before .before .before .before .before .before .before .before .before .before .before .lowest .ensures) (c .before .before .before .before .before .before .before .before .before .before .before .before .before .before .before .before .before .before .before .pre .1 .1) (c .before .before .before .before .before .before .before .before .if1 .taken) (c .before .before .before .before .before .if2 .left) in
-    (omega (arith, q .0, c .before .before .before .before .before .before .before .before .before .before .before .before .before .before .before .before .before .before .before .pre .0), (c .before .before .before .before .before .before .before .before .before .before .before .before .before .before .before .before .before .before .before .pre .1 .0, q .1, q .2, q .3))
-
--- src/lib.rt:154:21
-visit-database-add-t-2 : (t : ℕ) → visit-database-lts.Need-add-t-2 (
-  others-reads.Asked,
-  others-reads.Learnt,
-  slots-lowest-reads.Asked,
-  slots-lowest-reads.Learnt,
-  visit-job-below t,
-  visit-job.Post,
-  slots-rest-reads.Asked,
-  slots-rest-reads.Learnt,
-) (visit-database-at t) visit-database.Post visit-database-Inv-loop visit-database-μ-loop
-visit-database-add-t-2 t c =
-    let f : c .visit-job .result + 1 < 2 ^ 32 = room (c .visit-job .ensures .onward .ready) in
-    search needs
-
--- src/lib.rt:157:20
+-- src/lib.rt:143:9
 visit-database-rest-requires : (t : ℕ) → visit-database-lts.Need-rest-requires (
   others-reads.Asked,
   others-reads.Learnt,
   slots-lowest-reads.Asked,
   slots-lowest-reads.Learnt,
-  visit-job-below t,
-  visit-job.Post,
   slots-rest-reads.Asked,
   slots-rest-reads.Learnt,
+  visit-job-below t,
+  visit-job.Post,
 ) (visit-database-at t) visit-database.Post visit-database-Inv-loop visit-database-μ-loop
 visit-database-rest-requires t c κs = search needs
 
--- src/lib.rt:157:42
-visit-database-mul-others-3 : (t : ℕ) → visit-database-lts.Need-mul-others-3 (
+-- src/lib.rt:144:18
+visit-database-mul-at : (t : ℕ) → visit-database-lts.Need-mul-at (
   others-reads.Asked,
   others-reads.Learnt,
   slots-lowest-reads.Asked,
   slots-lowest-reads.Learnt,
-  visit-job-below t,
-  visit-job.Post,
   slots-rest-reads.Asked,
   slots-rest-reads.Learnt,
+  visit-job-below t,
+  visit-job.Post,
 ) (visit-database-at t) visit-database.Post visit-database-Inv-loop visit-database-μ-loop
-visit-database-mul-others-3 t c = search needs
+visit-database-mul-at t c = search needs
 
--- src/lib.rt:157:42
-visit-database-element-copy-out-others-3 :
-    (t : ℕ) → visit-database-lts.Need-element-copy-out-others-3 (
-      others-reads.Asked,
-      others-reads.Learnt,
-      slots-lowest-reads.Asked,
-      slots-lowest-reads.Learnt,
-      visit-job-below t,
-      visit-job.Post,
-      slots-rest-reads.Asked,
-      slots-rest-reads.Learnt,
-    ) (visit-database-at t) visit-database.Post visit-database-Inv-loop visit-database-μ-loop
-visit-database-element-copy-out-others-3 t c = search needs
-
--- src/lib.rt:157:9
-visit-database-others-requires-2 : (t : ℕ) → visit-database-lts.Need-others-requires-2 (
+-- src/lib.rt:144:36
+visit-database-cast-at : (t : ℕ) → visit-database-lts.Need-cast-at (
   others-reads.Asked,
   others-reads.Learnt,
   slots-lowest-reads.Asked,
   slots-lowest-reads.Learnt,
-  visit-job-below t,
-  visit-job.Post,
   slots-rest-reads.Asked,
   slots-rest-reads.Learnt,
+  visit-job-below t,
+  visit-job.Post,
 ) (visit-database-at t) visit-database.Post visit-database-Inv-loop visit-database-μ-loop
-visit-database-others-requires-2 t c κs = search needs
+visit-database-cast-at t c = search needs
+
+-- src/lib.rt:144:18
+visit-database-add-at : (t : ℕ) → visit-database-lts.Need-add-at (
+  others-reads.Asked,
+  others-reads.Learnt,
+  slots-lowest-reads.Asked,
+  slots-lowest-reads.Learnt,
+  slots-rest-reads.Asked,
+  slots-rest-reads.Learnt,
+  visit-job-below t,
+  visit-job.Post,
+) (visit-database-at t) visit-database.Post visit-database-Inv-loop visit-database-μ-loop
+visit-database-add-at t c =
+    let w : c .before .before .lowest .result < jobs = slot-below (c .before .before .before .before .loop .inv) (c .before .before .before .loop-test .taken) (c .before .before .lowest .ensures) in
+    search needs
+
+-- src/lib.rt:145:13
+visit-database-mul-if1 : (t : ℕ) → visit-database-lts.Need-mul-if1 (
+  others-reads.Asked,
+  others-reads.Learnt,
+  slots-lowest-reads.Asked,
+  slots-lowest-reads.Learnt,
+  slots-rest-reads.Asked,
+  slots-rest-reads.Learnt,
+  visit-job-below t,
+  visit-job.Post,
+) (visit-database-at t) visit-database.Post visit-database-Inv-loop visit-database-μ-loop
+visit-database-mul-if1 t c =
+    let w : c .before .before .lowest .result < jobs = slot-below (c .before .before .before .before .loop .inv) (c .before .before .before .loop-test .taken) (c .before .before .lowest .ensures) in
+    search needs
+
+-- src/lib.rt:145:13
+visit-database-element-copy-out-if1 : (t : ℕ) → visit-database-lts.Need-element-copy-out-if1 (
+  others-reads.Asked,
+  others-reads.Learnt,
+  slots-lowest-reads.Asked,
+  slots-lowest-reads.Learnt,
+  slots-rest-reads.Asked,
+  slots-rest-reads.Learnt,
+  visit-job-below t,
+  visit-job.Post,
+) (visit-database-at t) visit-database.Post visit-database-Inv-loop visit-database-μ-loop
+visit-database-element-copy-out-if1 t c =
+    let w : c .before .before .lowest .result < jobs = slot-below (c .before .before .before .before .loop .inv) (c .before .before .before .loop-test .taken) (c .before .before .lowest .ensures) in
+    search needs
+
+-- src/lib.rt:145:33
+visit-database-cast-if1 : (t : ℕ) → visit-database-lts.Need-cast-if1 (
+  others-reads.Asked,
+  others-reads.Learnt,
+  slots-lowest-reads.Asked,
+  slots-lowest-reads.Learnt,
+  slots-rest-reads.Asked,
+  slots-rest-reads.Learnt,
+  visit-job-below t,
+  visit-job.Post,
+) (visit-database-at t) visit-database.Post visit-database-Inv-loop visit-database-μ-loop
+visit-database-cast-if1 t c = search needs
+
+-- src/lib.rt:145:13
+visit-database-shr-if1 : (t : ℕ) → visit-database-lts.Need-shr-if1 (
+  others-reads.Asked,
+  others-reads.Learnt,
+  slots-lowest-reads.Asked,
+  slots-lowest-reads.Learnt,
+  slots-rest-reads.Asked,
+  slots-rest-reads.Learnt,
+  visit-job-below t,
+  visit-job.Post,
+) (visit-database-at t) visit-database.Post visit-database-Inv-loop visit-database-μ-loop
+visit-database-shr-if1 t c = search needs
+
+-- src/lib.rt:147:25
+visit-database-mul-x : (t : ℕ) → visit-database-lts.Need-mul-x (
+  others-reads.Asked,
+  others-reads.Learnt,
+  slots-lowest-reads.Asked,
+  slots-lowest-reads.Learnt,
+  slots-rest-reads.Asked,
+  slots-rest-reads.Learnt,
+  visit-job-below t,
+  visit-job.Post,
+) (visit-database-at t) visit-database.Post visit-database-Inv-loop visit-database-μ-loop
+visit-database-mul-x t c = search needs
+
+-- src/lib.rt:147:25
+visit-database-element-copy-out-x : (t : ℕ) → visit-database-lts.Need-element-copy-out-x (
+  others-reads.Asked,
+  others-reads.Learnt,
+  slots-lowest-reads.Asked,
+  slots-lowest-reads.Learnt,
+  slots-rest-reads.Asked,
+  slots-rest-reads.Learnt,
+  visit-job-below t,
+  visit-job.Post,
+) (visit-database-at t) visit-database.Post visit-database-Inv-loop visit-database-μ-loop
+visit-database-element-copy-out-x t c = search needs
+
+-- src/lib.rt:148:26
+visit-database-cast-if3 : (t : ℕ) → visit-database-lts.Need-cast-if3 (
+  others-reads.Asked,
+  others-reads.Learnt,
+  slots-lowest-reads.Asked,
+  slots-lowest-reads.Learnt,
+  slots-rest-reads.Asked,
+  slots-rest-reads.Learnt,
+  visit-job-below t,
+  visit-job.Post,
+) (visit-database-at t) visit-database.Post visit-database-Inv-loop visit-database-μ-loop
+visit-database-cast-if3 t c = search needs
+
+-- src/lib.rt:148:21
+visit-database-shr-if3 : (t : ℕ) → visit-database-lts.Need-shr-if3 (
+  others-reads.Asked,
+  others-reads.Learnt,
+  slots-lowest-reads.Asked,
+  slots-lowest-reads.Learnt,
+  slots-rest-reads.Asked,
+  slots-rest-reads.Learnt,
+  visit-job-below t,
+  visit-job.Post,
+) (visit-database-at t) visit-database.Post visit-database-Inv-loop visit-database-μ-loop
+visit-database-shr-if3 t c = search needs
+
+-- src/lib.rt:149:41
+visit-database-cast-found : (t : ℕ) → visit-database-lts.Need-cast-found (
+  others-reads.Asked,
+  others-reads.Learnt,
+  slots-lowest-reads.Asked,
+  slots-lowest-reads.Learnt,
+  slots-rest-reads.Asked,
+  slots-rest-reads.Learnt,
+  visit-job-below t,
+  visit-job.Post,
+) (visit-database-at t) visit-database.Post visit-database-Inv-loop visit-database-μ-loop
+visit-database-cast-found t c = search needs
+
+-- src/lib.rt:149:36
+visit-database-shl-found : (t : ℕ) → visit-database-lts.Need-shl-found (
+  others-reads.Asked,
+  others-reads.Learnt,
+  slots-lowest-reads.Asked,
+  slots-lowest-reads.Learnt,
+  slots-rest-reads.Asked,
+  slots-rest-reads.Learnt,
+  visit-job-below t,
+  visit-job.Post,
+) (visit-database-at t) visit-database.Post visit-database-Inv-loop visit-database-μ-loop
+visit-database-shl-found t c = search needs
+
+-- src/lib.rt:149:21
+visit-database-mul-found : (t : ℕ) → visit-database-lts.Need-mul-found (
+  others-reads.Asked,
+  others-reads.Learnt,
+  slots-lowest-reads.Asked,
+  slots-lowest-reads.Learnt,
+  slots-rest-reads.Asked,
+  slots-rest-reads.Learnt,
+  visit-job-below t,
+  visit-job.Post,
+) (visit-database-at t) visit-database.Post visit-database-Inv-loop visit-database-μ-loop
+visit-database-mul-found t c = search needs
+
+-- src/lib.rt:149:21
+visit-database-element-write-found : (t : ℕ) → visit-database-lts.Need-element-write-found (
+  others-reads.Asked,
+  others-reads.Learnt,
+  slots-lowest-reads.Asked,
+  slots-lowest-reads.Learnt,
+  slots-rest-reads.Asked,
+  slots-rest-reads.Learnt,
+  visit-job-below t,
+  visit-job.Post,
+) (visit-database-at t) visit-database.Post visit-database-Inv-loop visit-database-μ-loop
+visit-database-element-write-found t c = search needs
+
+-- src/lib.rt:150:25
+visit-database-add-t : (t : ℕ) → visit-database-lts.Need-add-t (
+  others-reads.Asked,
+  others-reads.Learnt,
+  slots-lowest-reads.Asked,
+  slots-lowest-reads.Learnt,
+  slots-rest-reads.Asked,
+  slots-rest-reads.Learnt,
+  visit-job-below t,
+  visit-job.Post,
+) (visit-database-at t) visit-database.Post visit-database-Inv-loop visit-database-μ-loop
+visit-database-add-t t c =
+    let f : c .before .before .before .before .before .before .before .before .before .before .before .before .before .before .loop .t + 1 < 2 ^ 32 = room (c .before .before .before .before .before .before .before .before .before .before .before .before .before .before .loop .inv .onward .ready) in
+    search needs
 
 -- src/lib.rt:140:5
 visit-database-loop-less : (t : ℕ) → visit-database-lts.Need-loop-less (
@@ -585,12 +418,12 @@ visit-database-loop-less : (t : ℕ) → visit-database-lts.Need-loop-less (
   others-reads.Learnt,
   slots-lowest-reads.Asked,
   slots-lowest-reads.Learnt,
-  visit-job-below t,
-  visit-job.Post,
   slots-rest-reads.Asked,
   slots-rest-reads.Learnt,
+  visit-job-below t,
+  visit-job.Post,
 ) (visit-database-at t) visit-database.Post visit-database-Inv-loop visit-database-μ-loop
-visit-database-loop-less t c = slots-fall (c .before .before .before .before .before .before .before .before .before .loop .inv) (c .before .before .before .before .before .before .before .before .loop-test .taken) (c .before .before .before .before .before .before .before .lowest .ensures) (c .before .before .rest .ensures) (c .others2 .ensures)
+visit-database-loop-less t c = rest-less (c .before .before .before .before .before .before .before .before .before .before .before .before .before .before .loop .inv) (c .before .before .before .before .before .before .before .before .before .before .before .before .before .loop-test .taken) (c .before .before .before .before .before .before .before .before .before .before .before .before .lowest .ensures) (c .before .before .before .before .before .before .before .before .before .before .before .rest .ensures)
 
 -- src/lib.rt:140:5
 visit-database-loop-again : (t : ℕ) → visit-database-lts.Need-loop-again (
@@ -598,18 +431,255 @@ visit-database-loop-again : (t : ℕ) → visit-database-lts.Need-loop-again (
   others-reads.Learnt,
   slots-lowest-reads.Asked,
   slots-lowest-reads.Learnt,
-  visit-job-below t,
-  visit-job.Post,
   slots-rest-reads.Asked,
   slots-rest-reads.Learnt,
+  visit-job-below t,
+  visit-job.Post,
 ) (visit-database-at t) visit-database.Post visit-database-Inv-loop visit-database-μ-loop
-visit-database-loop-again t c =
-    slots-turn (c .before .before .before .before .before .before .before .before .before .loop .inv) (c .before .before .before .before .before .before .before .before .loop-test .taken) (c .before .before .before .before .before .before .before .lowest .ensures) (c .before .before .rest .ensures) (c .others2 .ensures) _ refl
-    (⊎-elim (λ w. turned-is (so-far-is (w .8) (w .9) (w .10) (w .11)) (turn-closes (c .before .before .before .before .before .before .before .before .before .loop .inv) (c .before .before .before .before .before .before .before .before .loop-test .taken) (c .before .before .before .before .before .before .before .lowest .ensures) (c .before .before .before .before .before .before .before .before .before .before .before .before .before .before .pre .1 .1) (w .0 .taken) (w .3 .taken) (w .6 .taken)))
-    (⊎-elim (λ w. turned-is (so-far-is (w .7) (w .8) (w .9) (w .10)) (turn-found (c .before .before .before .before .before .before .before .before .before .loop .inv) (c .before .before .before .before .before .before .before .before .loop-test .taken) (c .before .before .before .before .before .before .before .lowest .ensures) (c .before .before .before .before .before .before .before .before .before .before .before .before .before .before .pre .1 .1) (w .0 .taken) (w .3 .taken) (w .6 .left)))
-    (⊎-elim (λ w. turned-is (so-far-is (w .10) (w .11) (w .12) (w .13)) (turn-forward (c .before .before .before .before .before .before .before .before .before .loop .inv) (c .before .before .before .before .before .before .before .before .loop-test .taken) (c .before .before .before .before .before .before .before .lowest .ensures) (c .before .before .before .before .before .before .before .before .before .before .before .before .before .before .pre .1 .1) (w .0 .taken) (w .3 .left) _ (w .9 .ensures)))
-    (λ w. turned-is (so-far-is (w .1) (w .2) (w .3) (w .4)) (turn-held (c .before .before .before .before .before .before .before .before .before .loop .inv) (c .before .before .before .before .before .before .before .before .loop-test .taken) (c .before .before .before .before .before .before .before .lowest .ensures) (c .before .before .before .before .before .before .before .before .before .before .before .before .before .before .pre .1 .1) (w .0 .left)))))
-    (c .before .before .before .if1 .came))
+visit-database-loop-again t c = slots-rest (c .before .before .before .before .before .before .before .before .before .before .before .before .before .before .loop .inv) (c .before .before .before .before .before .before .before .before .before .before .before .before .before .loop-test .taken) (c .before .before .before .before .before .before .before .before .before .before .before .before .lowest .ensures) (c .before .before .before .before .before .before .before .before .before .before .before .rest .ensures) refl (turn-closes (c .before .before .before .before .before .before .before .before .before .before .before .before .before .before .loop .inv) (c .before .before .before .before .before .before .before .before .before .before .before .before .before .loop-test .taken) (c .before .before .before .before .before .before .before .before .before .before .before .before .lowest .ensures) (c .before .before .before .before .before .before .before .before .before .before .before .before .before .before .before .before .before .before .before .pre .1 .1) (c .before .before .before .before .before .before .before .if1 .taken) (c .before .before .before .before .if2 .taken) (c .before .if3 .taken))
+
+-- src/lib.rt:140:5
+visit-database-loop-less-2 : (t : ℕ) → visit-database-lts.Need-loop-less-2 (
+  others-reads.Asked,
+  others-reads.Learnt,
+  slots-lowest-reads.Asked,
+  slots-lowest-reads.Learnt,
+  slots-rest-reads.Asked,
+  slots-rest-reads.Learnt,
+  visit-job-below t,
+  visit-job.Post,
+) (visit-database-at t) visit-database.Post visit-database-Inv-loop visit-database-μ-loop
+visit-database-loop-less-2 t c = rest-less (c .before .before .before .before .before .before .before .before .before .before .before .before .before .loop .inv) (c .before .before .before .before .before .before .before .before .before .before .before .before .loop-test .taken) (c .before .before .before .before .before .before .before .before .before .before .before .lowest .ensures) (c .before .before .before .before .before .before .before .before .before .before .rest .ensures)
+
+-- src/lib.rt:140:5
+visit-database-loop-again-2 : (t : ℕ) → visit-database-lts.Need-loop-again-2 (
+  others-reads.Asked,
+  others-reads.Learnt,
+  slots-lowest-reads.Asked,
+  slots-lowest-reads.Learnt,
+  slots-rest-reads.Asked,
+  slots-rest-reads.Learnt,
+  visit-job-below t,
+  visit-job.Post,
+) (visit-database-at t) visit-database.Post visit-database-Inv-loop visit-database-μ-loop
+visit-database-loop-again-2 t c = slots-rest (c .before .before .before .before .before .before .before .before .before .before .before .before .before .loop .inv) (c .before .before .before .before .before .before .before .before .before .before .before .before .loop-test .taken) (c .before .before .before .before .before .before .before .before .before .before .before .lowest .ensures) (c .before .before .before .before .before .before .before .before .before .before .rest .ensures) refl (turn-found (c .before .before .before .before .before .before .before .before .before .before .before .before .before .loop .inv) (c .before .before .before .before .before .before .before .before .before .before .before .before .loop-test .taken) (c .before .before .before .before .before .before .before .before .before .before .before .lowest .ensures) (c .before .before .before .before .before .before .before .before .before .before .before .before .before .before .before .before .before .before .pre .1 .1) (c .before .before .before .before .before .before .if1 .taken) (c .before .before .before .if2 .taken) (c .if3 .left))
+
+-- src/lib.rt:153:25
+visit-database-mul-x-2 : (t : ℕ) → visit-database-lts.Need-mul-x-2 (
+  others-reads.Asked,
+  others-reads.Learnt,
+  slots-lowest-reads.Asked,
+  slots-lowest-reads.Learnt,
+  slots-rest-reads.Asked,
+  slots-rest-reads.Learnt,
+  visit-job-below t,
+  visit-job.Post,
+) (visit-database-at t) visit-database.Post visit-database-Inv-loop visit-database-μ-loop
+visit-database-mul-x-2 t c = search needs
+
+-- src/lib.rt:153:25
+visit-database-element-copy-out-x-2 : (t : ℕ) → visit-database-lts.Need-element-copy-out-x-2 (
+  others-reads.Asked,
+  others-reads.Learnt,
+  slots-lowest-reads.Asked,
+  slots-lowest-reads.Learnt,
+  slots-rest-reads.Asked,
+  slots-rest-reads.Learnt,
+  visit-job-below t,
+  visit-job.Post,
+) (visit-database-at t) visit-database.Post visit-database-Inv-loop visit-database-μ-loop
+visit-database-element-copy-out-x-2 t c = search needs
+
+-- src/lib.rt:154:39
+visit-database-cast-reached : (t : ℕ) → visit-database-lts.Need-cast-reached (
+  others-reads.Asked,
+  others-reads.Learnt,
+  slots-lowest-reads.Asked,
+  slots-lowest-reads.Learnt,
+  slots-rest-reads.Asked,
+  slots-rest-reads.Learnt,
+  visit-job-below t,
+  visit-job.Post,
+) (visit-database-at t) visit-database.Post visit-database-Inv-loop visit-database-μ-loop
+visit-database-cast-reached t c = search needs
+
+-- src/lib.rt:154:34
+visit-database-shl-reached : (t : ℕ) → visit-database-lts.Need-shl-reached (
+  others-reads.Asked,
+  others-reads.Learnt,
+  slots-lowest-reads.Asked,
+  slots-lowest-reads.Learnt,
+  slots-rest-reads.Asked,
+  slots-rest-reads.Learnt,
+  visit-job-below t,
+  visit-job.Post,
+) (visit-database-at t) visit-database.Post visit-database-Inv-loop visit-database-μ-loop
+visit-database-shl-reached t c =
+    let w : c .before .before .before .before .before .before .before .before .before .before .lowest .result < jobs = slot-below (c .before .before .before .before .before .before .before .before .before .before .before .before .loop .inv) (c .before .before .before .before .before .before .before .before .before .before .before .loop-test .taken) (c .before .before .before .before .before .before .before .before .before .before .lowest .ensures) in
+    search needs
+
+-- src/lib.rt:154:17
+visit-database-mul-reached : (t : ℕ) → visit-database-lts.Need-mul-reached (
+  others-reads.Asked,
+  others-reads.Learnt,
+  slots-lowest-reads.Asked,
+  slots-lowest-reads.Learnt,
+  slots-rest-reads.Asked,
+  slots-rest-reads.Learnt,
+  visit-job-below t,
+  visit-job.Post,
+) (visit-database-at t) visit-database.Post visit-database-Inv-loop visit-database-μ-loop
+visit-database-mul-reached t c = search needs
+
+-- src/lib.rt:154:17
+visit-database-element-write-reached : (t : ℕ) → visit-database-lts.Need-element-write-reached (
+  others-reads.Asked,
+  others-reads.Learnt,
+  slots-lowest-reads.Asked,
+  slots-lowest-reads.Learnt,
+  slots-rest-reads.Asked,
+  slots-rest-reads.Learnt,
+  visit-job-below t,
+  visit-job.Post,
+) (visit-database-at t) visit-database.Post visit-database-Inv-loop visit-database-μ-loop
+visit-database-element-write-reached t c = search needs
+
+-- src/lib.rt:155:84
+visit-database-add-visit-job : (t : ℕ) → visit-database-lts.Need-add-visit-job (
+  others-reads.Asked,
+  others-reads.Learnt,
+  slots-lowest-reads.Asked,
+  slots-lowest-reads.Learnt,
+  slots-rest-reads.Asked,
+  slots-rest-reads.Learnt,
+  visit-job-below t,
+  visit-job.Post,
+) (visit-database-at t) visit-database.Post visit-database-Inv-loop visit-database-μ-loop
+visit-database-add-visit-job t c =
+    let f : c .before .before .before .before .before .before .before .before .before .before .before .before .before .before .before .loop .t + 1 < 2 ^ 32 = room (c .before .before .before .before .before .before .before .before .before .before .before .before .before .before .before .loop .inv .onward .ready) in
+    search needs
+
+-- src/lib.rt:155:21
+visit-database-visit-job-requires : (t : ℕ) → visit-database-lts.Need-visit-job-requires (
+  others-reads.Asked,
+  others-reads.Learnt,
+  slots-lowest-reads.Asked,
+  slots-lowest-reads.Learnt,
+  slots-rest-reads.Asked,
+  slots-rest-reads.Learnt,
+  visit-job-below t,
+  visit-job.Post,
+) (visit-database-at t) visit-database.Post visit-database-Inv-loop visit-database-μ-loop
+visit-database-visit-job-requires t c κs =
+    let q = forward-asked (c .before .before .before .before .before .before .before .before .before .before .before .before .before .before .before .loop .inv) (c .before .before .before .before .before .before .before .before .before .before .before .before .before .before .loop-test .taken) (c .before .before .before .before .before .before .before .before .before .before .before .before .before .lowest .ensures) (c .before .before .before .before .before .before .before .before .before .before .before .before .before .before .before .before .before .before .before .before .pre .1 .1) (c .before .before .before .before .before .before .before .before .if1 .taken) (c .before .before .before .before .before .if2 .left) in
+    (omega (arith, q .0, c .before .before .before .before .before .before .before .before .before .before .before .before .before .before .before .before .before .before .before .before .pre .0), (c .before .before .before .before .before .before .before .before .before .before .before .before .before .before .before .before .before .before .before .before .pre .1 .0, q .1, q .2, q .3))
+
+-- src/lib.rt:155:21
+visit-database-add-t-2 : (t : ℕ) → visit-database-lts.Need-add-t-2 (
+  others-reads.Asked,
+  others-reads.Learnt,
+  slots-lowest-reads.Asked,
+  slots-lowest-reads.Learnt,
+  slots-rest-reads.Asked,
+  slots-rest-reads.Learnt,
+  visit-job-below t,
+  visit-job.Post,
+) (visit-database-at t) visit-database.Post visit-database-Inv-loop visit-database-μ-loop
+visit-database-add-t-2 t c =
+    let f : c .visit-job .result + 1 < 2 ^ 32 = room (c .visit-job .ensures .onward .ready) in
+    search needs
+
+-- src/lib.rt:156:31
+visit-database-mul-others-3 : (t : ℕ) → visit-database-lts.Need-mul-others-3 (
+  others-reads.Asked,
+  others-reads.Learnt,
+  slots-lowest-reads.Asked,
+  slots-lowest-reads.Learnt,
+  slots-rest-reads.Asked,
+  slots-rest-reads.Learnt,
+  visit-job-below t,
+  visit-job.Post,
+) (visit-database-at t) visit-database.Post visit-database-Inv-loop visit-database-μ-loop
+visit-database-mul-others-3 t c = search needs
+
+-- src/lib.rt:156:31
+visit-database-element-copy-out-others-3 :
+    (t : ℕ) → visit-database-lts.Need-element-copy-out-others-3 (
+      others-reads.Asked,
+      others-reads.Learnt,
+      slots-lowest-reads.Asked,
+      slots-lowest-reads.Learnt,
+      slots-rest-reads.Asked,
+      slots-rest-reads.Learnt,
+      visit-job-below t,
+      visit-job.Post,
+    ) (visit-database-at t) visit-database.Post visit-database-Inv-loop visit-database-μ-loop
+visit-database-element-copy-out-others-3 t c = search needs
+
+-- src/lib.rt:156:17
+visit-database-others-requires-2 : (t : ℕ) → visit-database-lts.Need-others-requires-2 (
+  others-reads.Asked,
+  others-reads.Learnt,
+  slots-lowest-reads.Asked,
+  slots-lowest-reads.Learnt,
+  slots-rest-reads.Asked,
+  slots-rest-reads.Learnt,
+  visit-job-below t,
+  visit-job.Post,
+) (visit-database-at t) visit-database.Post visit-database-Inv-loop visit-database-μ-loop
+visit-database-others-requires-2 t c κs = search needs
+
+-- src/lib.rt:140:5
+visit-database-loop-less-3 : (t : ℕ) → visit-database-lts.Need-loop-less-3 (
+  others-reads.Asked,
+  others-reads.Learnt,
+  slots-lowest-reads.Asked,
+  slots-lowest-reads.Learnt,
+  slots-rest-reads.Asked,
+  slots-rest-reads.Learnt,
+  visit-job-below t,
+  visit-job.Post,
+) (visit-database-at t) visit-database.Post visit-database-Inv-loop visit-database-μ-loop
+visit-database-loop-less-3 t c = others-less (c .before .before .before .before .before .before .before .before .before .before .before .before .before .before .before .before .before .before .loop .inv) (c .before .before .before .before .before .before .before .before .before .before .before .before .before .before .before .before .before .loop-test .taken) (c .before .before .before .before .before .before .before .before .before .before .before .before .before .before .before .before .lowest .ensures) (c .before .before .before .before .before .before .before .before .before .before .before .before .before .before .before .rest .ensures) (c .others2 .ensures)
+
+-- src/lib.rt:140:5
+visit-database-loop-again-3 : (t : ℕ) → visit-database-lts.Need-loop-again-3 (
+  others-reads.Asked,
+  others-reads.Learnt,
+  slots-lowest-reads.Asked,
+  slots-lowest-reads.Learnt,
+  slots-rest-reads.Asked,
+  slots-rest-reads.Learnt,
+  visit-job-below t,
+  visit-job.Post,
+) (visit-database-at t) visit-database.Post visit-database-Inv-loop visit-database-μ-loop
+visit-database-loop-again-3 t c = slots-turn (c .before .before .before .before .before .before .before .before .before .before .before .before .before .before .before .before .before .before .loop .inv) (c .before .before .before .before .before .before .before .before .before .before .before .before .before .before .before .before .before .loop-test .taken) (c .before .before .before .before .before .before .before .before .before .before .before .before .before .before .before .before .lowest .ensures) (c .before .before .before .before .before .before .before .before .before .before .before .before .before .before .before .rest .ensures) (c .others2 .ensures) (turn-forward (c .before .before .before .before .before .before .before .before .before .before .before .before .before .before .before .before .before .before .loop .inv) (c .before .before .before .before .before .before .before .before .before .before .before .before .before .before .before .before .before .loop-test .taken) (c .before .before .before .before .before .before .before .before .before .before .before .before .before .before .before .before .lowest .ensures) (c .before .before .before .before .before .before .before .before .before .before .before .before .before .before .before .before .before .before .before .before .before .before .before .pre .1 .1) (c .before .before .before .before .before .before .before .before .before .before .before .if1 .taken) (c .before .before .before .before .before .before .before .before .if2 .left) _ (c .before .before .visit-job .ensures))
+
+-- src/lib.rt:140:5
+visit-database-loop-less-4 : (t : ℕ) → visit-database-lts.Need-loop-less-4 (
+  others-reads.Asked,
+  others-reads.Learnt,
+  slots-lowest-reads.Asked,
+  slots-lowest-reads.Learnt,
+  slots-rest-reads.Asked,
+  slots-rest-reads.Learnt,
+  visit-job-below t,
+  visit-job.Post,
+) (visit-database-at t) visit-database.Post visit-database-Inv-loop visit-database-μ-loop
+visit-database-loop-less-4 t c = rest-less (c .before .before .before .before .before .before .before .loop .inv) (c .before .before .before .before .before .before .loop-test .taken) (c .before .before .before .before .before .lowest .ensures) (c .before .before .before .before .rest .ensures)
+
+-- src/lib.rt:140:5
+visit-database-loop-again-4 : (t : ℕ) → visit-database-lts.Need-loop-again-4 (
+  others-reads.Asked,
+  others-reads.Learnt,
+  slots-lowest-reads.Asked,
+  slots-lowest-reads.Learnt,
+  slots-rest-reads.Asked,
+  slots-rest-reads.Learnt,
+  visit-job-below t,
+  visit-job.Post,
+) (visit-database-at t) visit-database.Post visit-database-Inv-loop visit-database-μ-loop
+visit-database-loop-again-4 t c = slots-rest (c .before .before .before .before .before .before .before .loop .inv) (c .before .before .before .before .before .before .loop-test .taken) (c .before .before .before .before .before .lowest .ensures) (c .before .before .before .before .rest .ensures) refl (turn-held (c .before .before .before .before .before .before .before .loop .inv) (c .before .before .before .before .before .before .loop-test .taken) (c .before .before .before .before .before .lowest .ensures) (c .before .before .before .before .before .before .before .before .before .before .before .before .pre .1 .1) (c .if1 .left))
 
 -- src/lib.rt:123:1
 visit-database-returns : (t : ℕ) → visit-database-lts.Need-returns (
@@ -617,10 +687,10 @@ visit-database-returns : (t : ℕ) → visit-database-lts.Need-returns (
   others-reads.Learnt,
   slots-lowest-reads.Asked,
   slots-lowest-reads.Learnt,
-  visit-job-below t,
-  visit-job.Post,
   slots-rest-reads.Asked,
   slots-rest-reads.Learnt,
+  visit-job-below t,
+  visit-job.Post,
 ) (visit-database-at t) visit-database.Post visit-database-Inv-loop visit-database-μ-loop
 visit-database-returns t c = slots-done (c .before .loop .inv) (c .loop-test .left)
 
@@ -868,10 +938,10 @@ pub +visit-database+visit-job-spec : {M : Type 1} → statement M
   others-reads.Learnt,
   slots-lowest-reads.Asked,
   slots-lowest-reads.Learnt,
-  visit-job-below t,
-  visit-job.Post,
   slots-rest-reads.Asked,
   slots-rest-reads.Learnt,
+  visit-job-below t,
+  visit-job.Post,
 )
     (visit-database-at t)
     visit-database.Post
@@ -886,6 +956,7 @@ pub +visit-database+visit-job-spec : {M : Type 1} → statement M
     (visit-database-loop-holds t)
     (visit-database-lowest-requires t)
     (visit-database-cast-low t)
+    (visit-database-rest-requires t)
     (visit-database-mul-at t)
     (visit-database-cast-at t)
     (visit-database-add-at t)
@@ -902,6 +973,10 @@ pub +visit-database+visit-job-spec : {M : Type 1} → statement M
     (visit-database-mul-found t)
     (visit-database-element-write-found t)
     (visit-database-add-t t)
+    (visit-database-loop-less t)
+    (visit-database-loop-again t)
+    (visit-database-loop-less-2 t)
+    (visit-database-loop-again-2 t)
     (visit-database-mul-x-2 t)
     (visit-database-element-copy-out-x-2 t)
     (visit-database-cast-reached t)
@@ -911,12 +986,13 @@ pub +visit-database+visit-job-spec : {M : Type 1} → statement M
     (visit-database-add-visit-job t)
     (visit-database-visit-job-requires t)
     (visit-database-add-t-2 t)
-    (visit-database-rest-requires t)
     (visit-database-mul-others-3 t)
     (visit-database-element-copy-out-others-3 t)
     (visit-database-others-requires-2 t)
-    (visit-database-loop-less t)
-    (visit-database-loop-again t)
+    (visit-database-loop-less-3 t)
+    (visit-database-loop-again-3 t)
+    (visit-database-loop-less-4 t)
+    (visit-database-loop-again-4 t)
     (visit-database-returns t))
     λ t. visit-job-lts.spec (
       without-member-reads.Asked,
