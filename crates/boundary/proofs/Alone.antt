@@ -9,7 +9,7 @@ use Rattle.coordinator.specs.Call.{Call}
 use Rattle.layout.specs.Put.{put}
 use Rattle.layout.specs.Bytes.{bytesOf, numberAt}
 use Rattle.layout.proofs.Back.{number-there}
-use Rattle.lines.specs.Record.{callOf}
+use Rattle.record.specs.Record.{callOf}
 use Rattle.boundary.specs.Records.{recordAt}
 
 module _ (kind database value : ℕ) (r : List ℕ) (e : r ≡ put (set (set (replicate 4 0) 0 kind) 1 database) 2 (bytesOf 2 value)) where

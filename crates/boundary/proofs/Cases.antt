@@ -12,9 +12,10 @@ use Rattle.coordinator.specs.Fresh.{fresh}
 use Rattle.coordinator.specs.Bound.{mostMoves}
 use Rattle.coordinator.specs.Call.{Call}
 use Rattle.layout.specs.Bytes.{pieces}
+use Rattle.record.specs.Answer.{answer}
 use Rattle.boundary.specs.State.{stateSize, encoded, decoded}
 use Rattle.boundary.specs.Row.{rowSize, row}
-use Rattle.boundary.specs.Records.{answer, recordAt, stateAfter, rowAt, rows}
+use Rattle.boundary.specs.Records.{recordAt, stateAfter, rowAt, rows}
 use Rattle.boundary.specs.Outcome.{Outcome, Written, outcome, playedAll, recordsPlayed, playedOne, called, started, movesAtMost}
 
 abbrev refused : List ℕ → List ℕ → Outcome

@@ -1,8 +1,7 @@
--- A state as bytes, there and back: `Coding`. An answer as bytes: `Written`, and its tickets: `Tickets`. Each call's row: `Answering`. Many records: `Playing`; a call as the one record of a list: `Alone`.
+-- A state as bytes, there and back: `Coding`. An answer as bytes: `Written`. A record's row: `Answering`. Many records: `Playing`; a call as the one record of a list: `Alone`.
 -- What each function answers, by its lengths: `Cases`.
 pub mod Coding
 pub mod Written
-pub mod Tickets
 pub mod Answering
 pub mod Playing
 pub mod Alone

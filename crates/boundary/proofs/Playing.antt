@@ -10,9 +10,10 @@ use Rattle.layout.specs.Put.{put}
 use Rattle.layout.specs.Bytes.{numberAt}
 use Rattle.layout.proofs.Put.{put-all, Filled, filled-long}
 use Rattle.layout.proofs.Numbers.{length-pieces, pieces-none, pieces-turn}
+use Rattle.record.specs.Answer.{answer}
 use Rattle.boundary.specs.Row.{rowSize, row}
-use Rattle.boundary.specs.Records.{answer, Answers, recordAt, stateAfter, rowAt, rows}
-use Rattle.lines.specs.Record.{callOf}
+use Rattle.boundary.specs.Records.{Answers, recordAt, stateAfter, rowAt, rows}
+use Rattle.record.specs.Record.{callOf}
 use Rattle.boundary.proofs.Written.{length-row}
 use Rattle.boundary.proofs.Answering.{as-call}
 

@@ -10,8 +10,9 @@ use Rattle.layout.specs.Put.{put}
 use Rattle.layout.specs.Bytes.{bytesOf, bytesOfAll}
 use Rattle.layout.proofs.Put.{filled-none, filled-on, filled-to}
 use Rattle.layout.proofs.Numbers.{length-all, same-all, filled-number, filled-numbers}
-use Rattle.boundary.specs.declared.row.Numbers.{Numbers}
-use Rattle.boundary.specs.Row.{rowSize, numbersOf, numberBytes, rowOf, row}
+use Rattle.record.specs.declared.answer.Numbers.{Numbers}
+use Rattle.record.specs.Answer.{numbersOf}
+use Rattle.boundary.specs.Row.{rowSize, numberBytes, rowOf, row}
 
 pub length-row : (v : Values) → length (row v) ≡ rowSize
 unfolding row rowOf numberBytes bytesOf

@@ -11,7 +11,8 @@ use Rattle.coordinator.specs.Bound.{mostMoves}
 use Rattle.coordinator.specs.Call.{Call}
 use Rattle.boundary.specs.State.{stateSize, encoded, decoded}
 use Rattle.boundary.specs.Row.{rowSize, row}
-use Rattle.boundary.specs.Records.{answer, stateAfter, rows}
+use Rattle.record.specs.Answer.{answer}
+use Rattle.boundary.specs.Records.{stateAfter, rows}
 
 -- the number answered, and the slices as they are left
 pub record Outcome : Type 0 where

@@ -1,21 +1,16 @@
 -- What records answer, one after another, and the state they leave. Assumes nothing: these are definitions.
 use Prim.Native.Nat.{ℕ, zero, suc, _+_, _*_}
 use mathlib.Core.List.{List}
-use mathlib.Core.Option.{Option, none, some}
+use mathlib.Core.Option.{Option}
 use mathlib.Core.Path.{_≡_}
 use lib.ListN.{getD}
 use Rattle.coordinator.specs.declared.Coordinator.{Coordinator}
-use Rattle.coordinator.specs.Answer.{refused}
-use Rattle.coordinator.specs.Call.{Call, Played, play}
+use Rattle.coordinator.specs.Call.{Call}
 use Rattle.layout.specs.Put.{put}
 use Rattle.layout.specs.Bytes.{numberAt, pieces}
-use Rattle.lines.specs.Record.{callOf}
+use Rattle.record.specs.Record.{callOf}
+use Rattle.record.specs.Answer.{answer}
 use Rattle.boundary.specs.Row.{row}
-
--- a call is played; what is no call is refused by 11, and changes nothing
-unfoldable pub answer : Coordinator → Option Call → Played
-answer s none = record { values = refused 11; state = s }
-answer s (some c) = play s c
 
 -- its row stands from index at on, nothing else is changed, and r is the state left
 pub record Answers (s : Coordinator) (c : Option Call) (o : List ℕ) (at : ℕ) (left : List ℕ) (r : Coordinator) : Type 0 where

@@ -4,13 +4,11 @@ use mathlib.Core.List.{List, _++_}
 use Rattle.coordinator.specs.Limits.{jobs}
 use Rattle.coordinator.specs.Answer.{Values}
 use Rattle.layout.specs.Bytes.{bytesOf, bytesOfAll}
-use Rattle.boundary.specs.declared.row.Numbers.{Numbers}
+use Rattle.record.specs.declared.answer.Numbers.{Numbers}
+use Rattle.record.specs.Answer.{numbersOf}
 
 abbrev pub rowSize : ℕ
 rowSize = 80
-
-abbrev pub numbersOf : Values → Numbers
-numbersOf v = record { refusal = v .refusal; released = v .released; closed = v .closed; ticket = v .ticket; added = v .added; moves = v .moves }
 
 -- Ten bytes. No number of an answer takes more than its own: at most 32 jobs are closed, 496 dependencies added, 1,488 moves made.
 unfoldable pub numberBytes : Numbers → List ℕ

@@ -16,7 +16,7 @@ ghost use mathlib.Core.Path.{_≡_};
 ghost use mathlib.Core.List.{[]};
 ghost use mathlib.Core.Option.{some};
 ghost use Rattle.coordinator.specs.Call.{openJob, askStep, confirmStep, closeJob};
-ghost use Rattle.lines.specs.Record.{callOf};
+ghost use Rattle.record.specs.Record.{callOf};
 ghost use Rattle.boundary.specs.Outcome.{recordsPlayed, called, started, movesAtMost};
 
 const STATE_SIZE: usize = 2406;

@@ -10,7 +10,8 @@ use Rattle.coordinator.specs.declared.Coordinator.{Coordinator}
 use Rattle.layout.specs.Put.{put, Counts}
 use Rattle.layout.proofs.Put.{put-none, put-put, length-put, counts}
 use Rattle.lines.specs.declared.Played.{Played}
-use Rattle.lines.specs.Record.{twoBytes, callOf}
+use Rattle.record.specs.Record.{callOf}
+use Rattle.lines.specs.Record.{twoBytes}
 use Rattle.lines.specs.Answered.{Answered, answered}
 use Rattle.lines.specs.Line.{line, longest}
 use Rattle.lines.specs.Lines.{answer, lineOf, leftOver, linesOf, stateAfter, linesIn}

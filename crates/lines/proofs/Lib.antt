@@ -1,8 +1,7 @@
 pub mod Decimal
 pub mod Line
+pub mod Telling
 pub mod Told
-pub mod Record
 pub mod Pieces
-pub mod Stays
 pub mod Going
 pub mod Playing

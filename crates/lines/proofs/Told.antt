@@ -1,48 +1,60 @@
--- The numbers said of each call's answer, beside the state left, are what the record answers. Assumes nothing.
+-- The numbers said of a record's answer, beside the state left, are what the record answers. Assumes nothing.
 use Prim.Native.Nat.{ℕ}
-use mathlib.Core.Path.{_≡_, refl, sym, ap, _∙_}
-use mathlib.Core.List.{List, []}
-use mathlib.Core.Option.{some, none}
+use mathlib.Core.Bool.{Bool, true, false}
+use mathlib.Core.Option.{Option, some, none}
+use mathlib.Core.Path.{_≡_, refl, ap, _∙_}
+use lib.Dec.{eqb}
 use Rattle.coordinator.specs.declared.Coordinator.{Coordinator}
-use Rattle.coordinator.specs.declared.answers.CloseAnswer.{CloseAnswer}
-use Rattle.coordinator.specs.declared.answers.AfterOpen.{AfterOpen}
-use Rattle.coordinator.specs.declared.answers.AfterAsk.{AfterAsk}
-use Rattle.coordinator.specs.declared.answers.AfterConfirm.{AfterConfirm}
-use Rattle.coordinator.specs.declared.answers.AfterClose.{AfterClose}
-use Rattle.coordinator.specs.Open.{afterOpen}
-use Rattle.coordinator.specs.Ask.{afterAsk}
-use Rattle.coordinator.specs.Confirm.{afterConfirm}
-use Rattle.coordinator.specs.Close.{afterClose}
-use Rattle.coordinator.specs.Answer.{Values, closeValues}
-use Rattle.coordinator.specs.Call.{openJob, askStep, confirmStep, closeJob, play}
+use Rattle.coordinator.specs.Call.{Call, openJob, askStep, confirmStep, closeJob}
+use Rattle.record.specs.declared.answer.Numbers.{Numbers}
+use Rattle.record.specs.declared.answer.Answer.{Answer}
+use Rattle.record.specs.Record.{callOf}
+use Rattle.record.specs.Answer.{numbersOf, answer}
+use Rattle.record.specs.Tested.{Plays}
 use Rattle.lines.specs.declared.said.Said.{Said}
-use Rattle.lines.specs.Said.{openSaid, askSaid, confirmSaid, closeSaid}
+use Rattle.lines.specs.Said.{saidOf}
 use Rattle.lines.specs.Answered.{Answered, beside, told, answered}
 
-pub open-told : (s : Coordinator) (mask : ℕ) (r : AfterOpen) (q : Said) → r ≡ afterOpen s mask → q ≡ openSaid (r .answer) → beside (r .state) q ≡ answered s (some (openJob mask))
-unfolding answered told play
-open-told s mask r q e h = ap (beside (r .state)) h ∙ ap (λ (x : AfterOpen). beside (x .state) (openSaid (x .answer))) e
+module _ (s : Coordinator) (kind database value : ℕ) where
+  told-is : beside (answer s (callOf kind database value) .state) (saidOf kind (numbersOf (answer s (callOf kind database value) .values))) ≡ answered s (callOf kind database value)
+  unfolding callOf saidOf answered told answer
+  told-is = by (eqb kind 1) (eqb kind 2) (eqb kind 3) (eqb kind 4)
+    where
+      call : Bool → Bool → Bool → Bool → Option Call
+      call a b c d =
+          elim a [
+            | true ↦ some (openJob value)
+            | false ↦ elim b [
+              | true ↦ some (askStep value database)
+              | false ↦ elim c [ true ↦ some (confirmStep value database) | false ↦ elim d [ true ↦ some (closeJob value) | false ↦ none ] ]
+            ]
+          ]
 
-pub ask-told : (s : Coordinator) (t k : ℕ) (r : AfterAsk) (q : Said) → r ≡ afterAsk s t k → q ≡ askSaid (r .answer) → beside (r .state) q ≡ answered s (some (askStep t k))
-unfolding answered told play
-ask-told s t k r q e h = ap (beside (r .state)) h ∙ ap (λ (x : AfterAsk). beside (x .state) (askSaid (x .answer))) e
+      said : Bool → Bool → Bool → Bool → Numbers → Said
+      said a b c d n =
+          elim a [
+            | true ↦ record { refusal = n .refusal; first = n .ticket; second = n .moves }
+            | false ↦ elim b [
+              | true ↦ record { refusal = n .refusal; first = n .released; second = 0 }
+              | false ↦ elim c [
+                | true ↦ record { refusal = n .refusal; first = n .released; second = n .ticket }
+                | false ↦ elim d [
+                  | true ↦ record { refusal = n .refusal; first = n .closed; second = 0 }
+                  | false ↦ record { refusal = n .refusal; first = 0; second = 0 }
+                ]
+              ]
+            ]
+          ]
 
-pub confirm-told : (s : Coordinator) (t k : ℕ) (r : AfterConfirm) (q : Said) → r ≡ afterConfirm s t k → q ≡ confirmSaid (r .answer) → beside (r .state) q ≡ answered s (some (confirmStep t k))
-unfolding answered told play
-confirm-told s t k r q e h = ap (beside (r .state)) h ∙ ap (λ (x : AfterConfirm). beside (x .state) (confirmSaid (x .answer))) e
+      by : (a b c d : Bool) → beside (answer s (call a b c d) .state) (said a b c d (numbersOf (answer s (call a b c d) .values))) ≡ answered s (call a b c d)
+      by true b c d = refl
+      by false true c d = refl
+      by false false true d = refl
+      by false false false true = refl
+      by false false false false = refl
 
--- the tickets closed change no number
-any-tickets : (a : CloseAnswer) (tickets : List ℕ) → _≡_ {A = Said} (closeSaid a) (record { refusal = closeValues a tickets .refusal; first = closeValues a tickets .closed; second = 0 })
-any-tickets (CloseAnswer.Refused n) tickets = refl
-any-tickets CloseAnswer.Held tickets = refl
-any-tickets (CloseAnswer.Closed n) tickets = refl
-
-pub close-told : (s : Coordinator) (t : ℕ) (r : AfterClose) (q : Said) → r ≡ afterClose s t → q ≡ closeSaid (r .answer) → beside (r .state) q ≡ answered s (some (closeJob t))
-unfolding answered told play
-close-told s t r q e h =
-    ap (beside (r .state)) (h ∙ any-tickets (r .answer) (r .tickets))
-    ∙ ap (λ (x : AfterClose). beside (x .state) (record { refusal = closeValues (x .answer) (x .tickets) .refusal; first = closeValues (x .answer) (x .tickets) .closed; second = 0 })) e
-
-pub none-told : (s : Coordinator) (q : Said) → _≡_ {A = Said} q (record { refusal = 11; first = 0; second = 0 }) → beside s q ≡ answered s none
-unfolding answered
-none-told s q h = ap (beside s) h
+  pub said-is : (r : Answer) (t : Coordinator) (q : Said) → Plays (answer s (callOf kind database value)) r t → q ≡ saidOf kind (r .numbers) → beside t q ≡ answered s (callOf kind database value)
+  said-is r t q p e =
+      ap (beside t) (e ∙ ap (saidOf kind) (p .numbers))
+      ∙ ap (λ (x : Coordinator). beside x (saidOf kind (numbersOf (answer s (callOf kind database value) .values)))) (p .state)
+      ∙ told-is

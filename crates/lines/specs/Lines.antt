@@ -3,7 +3,8 @@ use Prim.Native.Nat.{ℕ, _+_, _/_}
 use mathlib.Core.List.{List, [], _∷_, _++_}
 use lib.ListN.{length}
 use Rattle.coordinator.specs.declared.Coordinator.{Coordinator}
-use Rattle.lines.specs.Record.{twoBytes, callOf}
+use Rattle.record.specs.Record.{callOf}
+use Rattle.lines.specs.Record.{twoBytes}
 use Rattle.lines.specs.Answered.{Answered, answered}
 use Rattle.lines.specs.Line.{line}
 

@@ -1,21 +1,24 @@
 -- The numbers of a line after its index, from an answer alone. Assumes nothing: these are definitions.
-use mathlib.Core.List.{[]}
-use Rattle.coordinator.specs.declared.answers.OpenAnswer.{OpenAnswer}
-use Rattle.coordinator.specs.declared.answers.AskAnswer.{AskAnswer}
-use Rattle.coordinator.specs.declared.answers.ConfirmAnswer.{ConfirmAnswer}
-use Rattle.coordinator.specs.declared.answers.CloseAnswer.{CloseAnswer}
-use Rattle.coordinator.specs.Answer.{Values, openValues, askValues, confirmValues, closeValues}
+use Prim.Native.Nat.{ℕ}
+use mathlib.Core.Bool.{true, false}
+use lib.Dec.{eqb}
+use Rattle.record.specs.declared.answer.Numbers.{Numbers}
 use Rattle.lines.specs.declared.said.Said.{Said}
 
-abbrev pub openSaid : OpenAnswer → Said
-openSaid a = record { refusal = openValues a .refusal; first = openValues a .ticket; second = openValues a .moves }
-
-abbrev pub askSaid : AskAnswer → Said
-askSaid a = record { refusal = askValues a .refusal; first = askValues a .released; second = 0 }
-
-abbrev pub confirmSaid : ConfirmAnswer → Said
-confirmSaid a = record { refusal = confirmValues a .refusal; first = confirmValues a .released; second = confirmValues a .ticket }
-
--- the tickets closed are in no line
-abbrev pub closeSaid : CloseAnswer → Said
-closeSaid a = record { refusal = closeValues a [] .refusal; first = closeValues a [] .closed; second = 0 }
+-- Opening: ticket, moves. Asking: 1 released or 0 held, then 0. Confirming: 1 or 0 for whether one was released, then its ticket or 0.
+-- Closing: how many jobs were closed, then 0.
+unfoldable pub saidOf : ℕ → Numbers → Said
+saidOf kind n =
+    elim (eqb kind 1) [
+      | true ↦ record { refusal = n .refusal; first = n .ticket; second = n .moves }
+      | false ↦ elim (eqb kind 2) [
+        | true ↦ record { refusal = n .refusal; first = n .released; second = 0 }
+        | false ↦ elim (eqb kind 3) [
+          | true ↦ record { refusal = n .refusal; first = n .released; second = n .ticket }
+          | false ↦ elim (eqb kind 4) [
+            | true ↦ record { refusal = n .refusal; first = n .closed; second = 0 }
+            | false ↦ record { refusal = n .refusal; first = 0; second = 0 }
+          ]
+        ]
+      ]
+    ]

@@ -1,11 +1,10 @@
 // Plays records of four bytes and writes a line of four decimal numbers for each.
-mod answered;
 mod said;
 mod text;
 
-use answered::answer_record;
 use coordinator::Coordinator;
 use numbers::NumberMaker;
+use said::tell;
 use text::put_line;
 ghost use mathlib.Core.Path.{_≡_};
 ghost use Prim.Native.Nat.{_+_, _/_, _^_, _≤_, _<_};
@@ -66,7 +65,8 @@ fn play_all(s: Coordinator, index: u64, records: &[u8], out: &mut [u8]) -> Playe
     let mut w = 0;
     while 4 <= records.len() - at {
         let value = two_bytes(records, at + 2);
-        let said = answer_record(
+        let kind = records[at];
+        let answer = record::play(
             tested,
             &mut tickets,
             &mut held,
@@ -77,11 +77,13 @@ fn play_all(s: Coordinator, index: u64, records: &[u8], out: &mut [u8]) -> Playe
             &mut confirmed,
             &mut dependencies,
             &mut next,
-            records[at],
+            kind,
             records[at + 1],
             value,
         );
-        w = put_line(i, said.refusal, said.first, said.second, out, w);
+        let numbers = answer.numbers;
+        let told = tell(kind, numbers);
+        w = put_line(i, told.refusal, told.first, told.second, out, w);
         i += 1;
         at += 4;
     }

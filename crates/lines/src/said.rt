@@ -1,10 +1,7 @@
-// The numbers of a record's line after its index, from the answer alone: the state stays out of here, so that it is not copied.
-use coordinator::answers::AskAnswer;
-use coordinator::answers::CloseAnswer;
-use coordinator::answers::ConfirmAnswer;
-use coordinator::answers::OpenAnswer;
+// The numbers of a record's line after its index.
+use record::answer::Numbers;
 ghost use mathlib.Core.Path.{_≡_};
-ghost use Rattle.lines.specs.Said.{openSaid, askSaid, confirmSaid, closeSaid};
+ghost use Rattle.lines.specs.Said.{saidOf};
 
 pub(crate) struct Said {
     pub refusal: u8,
@@ -12,7 +9,7 @@ pub(crate) struct Said {
     pub second: u32,
 }
 
-pub(crate) fn numbers(refusal: u8, first: u32, second: u32) -> Said
+fn numbers(refusal: u8, first: u32, second: u32) -> Said
     ensures { λ r. ⌜ r ≡ record { refusal = refusal; first = first; second = second } ⌝ }
 {
     Said {
@@ -22,45 +19,21 @@ pub(crate) fn numbers(refusal: u8, first: u32, second: u32) -> Said
     }
 }
 
-pub(crate) fn opened(answer: OpenAnswer) -> Said
-    ensures { λ r. ⌜ r ≡ openSaid answer ⌝ }
+// What a record of that kind says of its answer.
+pub(crate) fn tell(kind: u8, n: Numbers) -> Said
+    ensures { λ r. ⌜ r ≡ saidOf kind n ⌝ }
 {
-    match answer {
-        OpenAnswer::Refused(n) => numbers(n, 0, 0),
-        OpenAnswer::Opened {
-            ticket,
-            added,
-            moves,
-        } => numbers(0, ticket.0 as u32, moves),
+    if kind == 1 {
+        return numbers(n.refusal, n.ticket as u32, n.moves);
     }
-}
-
-pub(crate) fn asked(answer: AskAnswer) -> Said
-    ensures { λ r. ⌜ r ≡ askSaid answer ⌝ }
-{
-    match answer {
-        AskAnswer::Refused(n) => numbers(n, 0, 0),
-        AskAnswer::Released => numbers(0, 1, 0),
-        AskAnswer::Held => numbers(0, 0, 0),
+    if kind == 2 {
+        return numbers(n.refusal, n.released as u32, 0);
     }
-}
-
-pub(crate) fn confirmed(answer: ConfirmAnswer) -> Said
-    ensures { λ r. ⌜ r ≡ confirmSaid answer ⌝ }
-{
-    match answer {
-        ConfirmAnswer::Refused(n) => numbers(n, 0, 0),
-        ConfirmAnswer::Released(t) => numbers(0, 1, t.0 as u32),
-        ConfirmAnswer::Nothing => numbers(0, 0, 0),
+    if kind == 3 {
+        return numbers(n.refusal, n.released as u32, n.ticket as u32);
     }
-}
-
-pub(crate) fn closed(answer: CloseAnswer) -> Said
-    ensures { λ r. ⌜ r ≡ closeSaid answer ⌝ }
-{
-    match answer {
-        CloseAnswer::Refused(n) => numbers(n, 0, 0),
-        CloseAnswer::Held => numbers(0, 0, 0),
-        CloseAnswer::Closed(n) => numbers(0, n, 0),
+    if kind == 4 {
+        return numbers(n.refusal, n.closed, 0);
     }
+    numbers(n.refusal, 0, 0)
 }

@@ -10,14 +10,14 @@ use Rattle.coordinator.specs.Test.{sound}
 use Rattle.coordinator.specs.Call.{Call, openJob, askStep, confirmStep, closeJob, play}
 use Rattle.soundness.specs.Kept.{MaskFits}
 use Rattle.soundness.proofs.Every.{test-stays}
-use Rattle.lines.specs.Record.{callOf}
-use Rattle.lines.specs.Answered.{Answered, told, answered}
+use Rattle.record.specs.Record.{callOf}
+use Rattle.record.specs.Answer.{answer}
 
-abbrev pub Fits : Option Call → Type 0
+abbrev Fits : Option Call → Type 0
 Fits none = Unit {0}
 Fits (some c) = MaskFits c
 
-pub call-fits : (kind database value : ℕ) → value < 2 ^ 16 → Fits (callOf kind database value)
+call-fits : (kind database value : ℕ) → value < 2 ^ 16 → Fits (callOf kind database value)
 unfolding callOf
 call-fits kind database value l = by (eqb kind 1) (eqb kind 2) (eqb kind 3) (eqb kind 4)
   where
@@ -36,7 +36,7 @@ call-fits kind database value l = by (eqb kind 1) (eqb kind 2) (eqb kind 3) (eqb
     by false false false false = tt
 
 -- the state that a call leaves; what is no call leaves it as it was
-abbrev pub leftBy : Coordinator → Option Call → Coordinator
+abbrev leftBy : Coordinator → Option Call → Coordinator
 leftBy s none = s
 leftBy s (some c) = play s c .state
 
@@ -48,19 +48,16 @@ left-stays s h (some c) fits = test-stays s h c fits
 abbrev pub Known : Bool → Coordinator → Type 0
 Known b s = (b ≡ sound s) × Shape s
 
-pub known-on : (b : Bool) (s r : Coordinator) (kind database value : ℕ) → value < 2 ^ 16 → Known b s → r ≡ leftBy s (callOf kind database value) → Known b r
+known-on : (b : Bool) (s r : Coordinator) (kind database value : ℕ) → value < 2 ^ 16 → Known b s → r ≡ leftBy s (callOf kind database value) → Known b r
 known-on b s r kind database value l (e, h) p =
     let k = left-stays s h (callOf kind database value) (call-fits kind database value l) in
     (e ∙ sym (k .1) ∙ ap sound (sym p), subst Shape (sym p) (k .0))
 
-answered-left : (s : Coordinator) (o : Option Call) → answered s o .state ≡ leftBy s o
-unfolding answered told
-answered-left s none = refl
-answered-left s (some (openJob mask)) = refl
-answered-left s (some (askStep t k)) = refl
-answered-left s (some (confirmStep t k)) = refl
-answered-left s (some (closeJob t)) = refl
+answer-left : (s : Coordinator) (c : Option Call) → answer s c .state ≡ leftBy s c
+unfolding answer
+answer-left s none = refl
+answer-left s (some c) = refl
 
-pub stays : (b : Bool) (s : Coordinator) (q : Answered) (kind database value : ℕ) → value < 2 ^ 16 → Known b s → q ≡ answered s (callOf kind database value) → Known b (q .state)
-stays b s q kind database value l k p =
-    known-on b s (q .state) kind database value l k (ap (λ (x : Answered). x .state) p ∙ answered-left s (callOf kind database value))
+-- and of a record: it was played given b, and r is the state left
+pub known-next : (b : Bool) (s r : Coordinator) (kind database value : ℕ) → value < 2 ^ 16 → Known b s → r ≡ answer s (callOf kind database value) .state → Known b r
+known-next b s r kind database value l k p = known-on b s r kind database value l k (p ∙ answer-left s (callOf kind database value))

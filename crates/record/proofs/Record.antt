@@ -4,7 +4,7 @@ use mathlib.Core.Path.{_≡_}
 use mathlib.Core.Option.{some, none}
 use borrow.Author.Tests.{eq-eqb, ne-eqb}
 use Rattle.coordinator.specs.Call.{openJob, askStep, confirmStep, closeJob}
-use Rattle.lines.specs.Record.{callOf}
+use Rattle.record.specs.Record.{callOf}
 
 module _ (kind database value : ℕ) where
   pub first-opens : kind ≡ 1 → callOf kind database value ≡ some (openJob value)

@@ -1,6 +1,13 @@
-// What a record answers.
-use crate::said;
-use crate::said::Said;
+// A record of document 01, played as the call that it is.
+pub mod answer;
+
+use answer::Answer;
+use answer::of_ask;
+use answer::of_close;
+use answer::of_confirm;
+use answer::of_open;
+use answer::refused;
+use answer::without_tickets;
 use coordinator::Coordinator;
 use coordinator::ask::ask_tested;
 use coordinator::close::close_tested;
@@ -12,16 +19,15 @@ ghost use mathlib.Core.Path.{_≡_};
 ghost use lib.ListN.{length};
 ghost use Rattle.coordinator.specs.Limits.{jobs};
 ghost use Rattle.coordinator.specs.State.{stateOf};
-ghost use Rattle.coordinator.specs.Test.{sound};
-ghost use Rattle.lines.specs.Record.{callOf};
-ghost use Rattle.lines.specs.Answered.{answered, beside};
+ghost use Rattle.record.specs.Record.{callOf};
+ghost use Rattle.record.specs.Tested.{answerTested, Plays};
 
 // A kind that is no call.
 const UNKNOWN_KIND: u8 = 11;
 
-// Plays the record's call on the tables of a state, which was tested; a kind that is no call changes nothing.
-pub(crate) fn answer_record(
-    tested: bool,
+// Plays the record in place, on the tables of a state, given whether it is sound. A kind that is no call changes nothing.
+pub fn play(
+    sound: bool,
     tickets: &mut [u16; Coordinator::JOBS],
     held: &mut u32,
     order: &mut [u8; Coordinator::JOBS],
@@ -34,13 +40,12 @@ pub(crate) fn answer_record(
     kind: u8,
     database: u8,
     value: u16,
-) -> Said
-    requires { ⌜ (length (now tickets) ≡ jobs) × (tested ≡ sound (stateOf (now tickets) (now held) (now order) (now named) (now asked) (now released) (now confirmed) (now dependencies) (now next))) ⌝ }
-    ensures { λ r. ⌜ beside (stateOf (now (tickets .exit)) (now (held .exit)) (now (order .exit)) (now (named .exit)) (now (asked .exit)) (now (released .exit)) (now (confirmed .exit)) (now (dependencies .exit)) (now (next .exit))) r ≡ answered (stateOf (now (tickets .entry)) (now (held .entry)) (now (order .entry)) (now (named .entry)) (now (asked .entry)) (now (released .entry)) (now (confirmed .entry)) (now (dependencies .entry)) (now (next .entry))) (callOf kind database value) ⌝ }
+) -> Answer
+    ensures { λ r. ⌜ (length (now (tickets .entry)) ≡ jobs → Plays (answerTested sound (stateOf (now (tickets .entry)) (now (held .entry)) (now (order .entry)) (now (named .entry)) (now (asked .entry)) (now (released .entry)) (now (confirmed .entry)) (now (dependencies .entry)) (now (next .entry))) (callOf kind database value)) r (stateOf (now (tickets .exit)) (now (held .exit)) (now (order .exit)) (now (named .exit)) (now (asked .exit)) (now (released .exit)) (now (confirmed .exit)) (now (dependencies .exit)) (now (next .exit)))) ⌝ }
 {
     if kind == 1 {
         let answer = open_tested(
-            tested,
+            sound,
             tickets,
             order,
             named,
@@ -49,11 +54,11 @@ pub(crate) fn answer_record(
             next,
             value,
         );
-        return said::opened(answer);
+        return without_tickets(of_open(answer));
     }
     if kind == 2 {
         let answer = ask_tested(
-            tested,
+            sound,
             tickets,
             named,
             asked,
@@ -63,11 +68,11 @@ pub(crate) fn answer_record(
             Ticket(value),
             Database(database),
         );
-        return said::asked(answer);
+        return without_tickets(of_ask(answer));
     }
     if kind == 3 {
         let answer = confirm_tested(
-            tested,
+            sound,
             tickets,
             named,
             asked,
@@ -77,11 +82,11 @@ pub(crate) fn answer_record(
             Ticket(value),
             Database(database),
         );
-        return said::confirmed(answer);
+        return without_tickets(of_confirm(answer));
     }
     if kind == 4 {
         let closed = close_tested(
-            tested,
+            sound,
             tickets,
             held,
             order,
@@ -93,7 +98,12 @@ pub(crate) fn answer_record(
             Ticket(value),
         );
         let answer = closed.answer;
-        return said::closed(answer);
+        let given_back = closed.tickets;
+        let numbers = of_close(answer);
+        return Answer {
+            numbers,
+            tickets: given_back,
+        };
     }
-    said::numbers(UNKNOWN_KIND, 0, 0)
+    without_tickets(refused(UNKNOWN_KIND))
 }

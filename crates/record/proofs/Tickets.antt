@@ -14,10 +14,10 @@ use Rattle.coordinator.specs.declared.answers.CloseAnswer.{CloseAnswer}
 use Rattle.coordinator.specs.Limits.{jobs}
 use Rattle.coordinator.specs.Views.{ticket}
 use Rattle.coordinator.specs.Holder.{holder}
-use Rattle.coordinator.specs.Refusal.{closeRefusal}
+use Rattle.coordinator.specs.Refusal.{closeRefusalTested}
 use Rattle.coordinator.specs.Release.{mayClose, mayCloseNow, firstOf}
 use Rattle.coordinator.specs.Answer.{closeValues}
-use Rattle.coordinator.specs.Close.{Closing, noTickets, closeOne, closeHeld, closing, closedAt, afterClose}
+use Rattle.coordinator.specs.Close.{Closing, noTickets, closeOne, closeHeld, closing, closedAt, afterCloseTested}
 
 -- no tickets, and an array of zeros
 pub none-there : (n i : ℕ) → _≡_ {A = ℕ} (getD [] i 0) (getD (replicate n 0) i 0)
@@ -68,6 +68,6 @@ refused-told : (s : Coordinator) (o : Option ℕ) (r : AfterClose) → Told r �
 refused-told s none r h = h
 refused-told s (some n) r h = none-there jobs
 
-pub close-told : (s : Coordinator) (t : ℕ) → Told (afterClose s t)
-unfolding afterClose
-close-told s t = refused-told s (closeRefusal s t) (closedAt s (holder s t)) (closed-told s (holder s t))
+pub close-told : (b : Bool) (s : Coordinator) (t : ℕ) → Told (afterCloseTested b s t)
+unfolding afterCloseTested
+close-told b s t = refused-told s (closeRefusalTested b s t) (closedAt s (holder s t)) (closed-told s (holder s t))
