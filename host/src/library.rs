@@ -43,8 +43,10 @@ extern "C" {
     fn most_moves(state: *const u8, state_len: usize) -> u32;
 }
 
-/// The library, by many records in one call, and by a call for each.
+/// The library, by many records in one call, by records in a call each, and by the
+/// function for each kind of call.
 pub struct Library;
+pub struct OneByOne;
 pub struct SingleCalls;
 
 /// The call itself, with any lengths. Gives what the library gives.
@@ -98,6 +100,15 @@ impl Player for Library {
         let refused = play(state, records.as_flattened(), rows.as_flattened_mut());
         assert_eq!(refused, 0, "the lengths are right");
         rows
+    }
+}
+
+/// Every record decodes the state, tests it, and encodes it again.
+impl Player for OneByOne {
+    const NAME: &'static str = "one by one";
+
+    fn play(state: &mut Bytes, records: &[Record]) -> Vec<Row> {
+        records.iter().map(|&record| Library::play(state, &[record])[0]).collect()
     }
 }
 

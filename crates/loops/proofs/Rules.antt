@@ -26,9 +26,6 @@ pub record Steps {S : Type 0} (R : S → S → Type 0) (Ok : S → Type 0) : Typ
   pub then : {r s t : S} → R r s → R s t → R r t
   pub keep : {s t : S} → R s t → Ok s → Ok t
 
-pub both-steps : {S : Type 0} {R : S → S → Type 0} {A B : S → Type 0} → Steps R A → Steps R B → Steps R (λ s. A s × B s)
-both-steps p q = record { stay = p .stay; then = λ h k. p .then h k; keep = λ h ok. (p .keep h (ok .0), q .keep h (ok .1)) }
-
 module _ {S : Type 0} {R : S → S → Type 0} {Ok : S → Type 0} (𝓡 : Steps R Ok) where
   -- each turn k is a step that reaches `Q k`, which later steps leave: so the loop is a step that reaches them all
   pub over-rule : (Q : ℕ → S → Type 0) → ((k : ℕ) (s t : S) → R s t → Q k s → Q k t) → (f : ℕ → S → S) (K : ℕ)
@@ -41,17 +38,6 @@ module _ {S : Type 0} {R : S → S → Type 0} {Ok : S → Type 0} (𝓡 : Steps
       let now = each K (le-refl (suc K)) (over K f s) (𝓡 .keep (ih .0) ok) in
       (𝓡 .then (ih .0) (now .0), λ k h. split-last (λ k. Q k (f K (over K f s))) (now .1) (λ k h. lasts k _ _ (now .0) (ih .1 k h)) k h)
 
-  -- loops whose turns agree, agree
-  pub over-agree : (f g : ℕ → S → S) (K : ℕ)
-      → ((k : ℕ) → k < K → (s : S) → Ok s → R s (f k s) × (f k s ≡ g k s))
-      → (s : S) → Ok s → R s (over K f s) × (over K f s ≡ over K g s)
-  unfolding over
-  over-agree f g zero each s ok = (𝓡 .stay s, refl)
-  over-agree f g (suc K) each s ok =
-      let ih = over-agree f g K (λ k h. each k (omega arith)) s ok in
-      let now = each K (le-refl (suc K)) (over K f s) (𝓡 .keep (ih .0) ok) in
-      (𝓡 .then (ih .0) (now .0), rw (← (ih .1)) (now .1))
-
 -- a test: one case for each answer, with the answer
 pub guard-rule : {S : Type 0} (P : S → Type 0) (b : Bool) (f : S → S) (s : S) → (b ≡ true → P (f s)) → (b ≡ false → P s) → P (guard b f s)
 unfolding guard
@@ -62,17 +48,6 @@ pub choice-rule : {S : Type 0} (P : S → Type 0) (b : Bool) (f g : S → S) (s 
 unfolding choice
 choice-rule P true f g s h k = h refl
 choice-rule P false f g s h k = k refl
-
-pub guard-same : {S : Type 0} (b : Bool) (f g : S → S) (s : S) → (b ≡ true → f s ≡ g s) → guard b f s ≡ guard b g s
-unfolding guard
-guard-same true f g s h = h refl
-guard-same false f g s h = refl
-
-pub choice-same : {S : Type 0} (b : Bool) (f g f′ g′ : S → S) (s : S)
-    → (b ≡ true → f s ≡ f′ s) → (b ≡ false → g s ≡ g′ s) → choice b f g s ≡ choice b f′ g′ s
-unfolding choice
-choice-same true f g f′ g′ s h k = h refl
-choice-same false f g f′ g′ s h k = k refl
 
 -- for a proof of code: one more turn, and the arm that was taken
 pub over-next : {S : Type 0} (k : ℕ) (f : ℕ → S → S) (s : S) → over (k + 1) f s ≡ f k (over k f s)

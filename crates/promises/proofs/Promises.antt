@@ -13,6 +13,7 @@ use Rattle.effects.proofs.Fresh.{fresh-view}
 use Rattle.soundness.specs.Kept.{MaskFits}
 use Rattle.soundness.proofs.Accepted.{open-accepted, confirm-accepted, close-accepted}
 use Rattle.soundness.proofs.Calls.{play-sound}
+use Rattle.soundness.proofs.Every.{test-stays}
 use Rattle.soundness.proofs.Fresh.{fresh-sound}
 use Rattle.soundness.proofs.Room.{closed-went, room-after-close}
 use Rattle.decision.proofs.Decides.{sound-iff}
@@ -38,6 +39,7 @@ soundness : Soundness
 soundness = record {
   test = sound-iff;
   kept = λ s c S fits X. play-sound s c (mask-fits c fits) S X;
+  stays = λ s c S fits. test-stays s S c (mask-fits c fits) .1;
   start = λ n h. (fresh-sound n h .1, fresh-view n h .isOpen, refl);
 }
 

@@ -19,10 +19,10 @@ use Rattle.coordinator.specs.declared.answers.AfterClose.{AfterClose}
 use Rattle.coordinator.specs.Fresh.{fresh}
 use Rattle.coordinator.specs.Test.{sound}
 use Rattle.coordinator.specs.Bound.{mostMoves}
-use Rattle.coordinator.specs.Open.{afterOpen}
-use Rattle.coordinator.specs.Ask.{afterAsk}
-use Rattle.coordinator.specs.Confirm.{afterConfirm}
-use Rattle.coordinator.specs.Close.{afterClose}
+use Rattle.coordinator.specs.Open.{afterOpen, afterOpenTested}
+use Rattle.coordinator.specs.Ask.{afterAsk, afterAskTested}
+use Rattle.coordinator.specs.Confirm.{afterConfirm, afterConfirmTested}
+use Rattle.coordinator.specs.Close.{afterClose, afterCloseTested}
 
 abbrev pub Determines : {A : Type 0} → (A → Type 0) → Type 0
 Determines {A} P = (x y : A) → P x → P y → x ≡ y
@@ -33,6 +33,11 @@ pub record Determined : Type 0 where
   pub ask : (s : Coordinator) (t k : ℕ) → Determines (λ (r : AfterAsk). r ≡ afterAsk s t k)
   pub confirm : (s : Coordinator) (t k : ℕ) → Determines (λ (r : AfterConfirm). r ≡ afterConfirm s t k)
   pub close : (s : Coordinator) (t : ℕ) → Determines (λ (r : AfterClose). r ≡ afterClose s t)
+  -- and given whether the state is sound, the tables put together
+  pub open-tested : (b : Bool) (s : Coordinator) (mask : ℕ) → Determines (λ (r : AfterOpen). r ≡ afterOpenTested b s mask)
+  pub ask-tested : (b : Bool) (s : Coordinator) (t k : ℕ) → Determines (λ (r : AfterAsk). r ≡ afterAskTested b s t k)
+  pub confirm-tested : (b : Bool) (s : Coordinator) (t k : ℕ) → Determines (λ (r : AfterConfirm). r ≡ afterConfirmTested b s t k)
+  pub close-tested : (b : Bool) (s : Coordinator) (t : ℕ) → Determines (λ (r : AfterClose). r ≡ afterCloseTested b s t)
   pub start : (n : ℕ) → Determines (λ (r : Coordinator). r ≡ fresh n)
   pub is-sound : (s : Coordinator) → Determines (λ (r : Bool). r ≡ sound s)
   pub most-moves : (s : Coordinator) → Determines (λ (r : ℕ). r ≡ mostMoves s)

@@ -45,6 +45,8 @@ pub record Soundness : Type 0 where
   pub test : (s : Coordinator) → Shape s → (sound s ≡ true) ↔ Sound s
   -- every call on a sound state leaves a sound state
   pub kept : (s : Coordinator) (c : Call) → Shape s → Fits c → Sound s → Shape (play s c .state) × Sound (play s c .state)
+  -- after any call the test says what it said before
+  pub stays : (s : Coordinator) (c : Call) → Shape s → Fits c → sound (play s c .state) ≡ sound s
   -- a fresh start is sound, has no open job and keeps the candidate
   pub start : (n : ℕ) → n < 2 ^ 16 → Sound (fresh n) × ((j : ℕ) → isOpen (fresh n) j ≡ false) × (fresh n .maker .next ≡ n)
 

@@ -20,13 +20,15 @@ fn implementation<P: Player>(slow: usize) -> Implementation {
     Implementation { name: P::NAME, play: P::play, slow }
 }
 
-/// What is compared, the slowest first and the library, if it is linked, last.
+/// What is compared, the slowest first and the library, if it is linked, last: by
+/// stretches of records, for which it tests the state once, and one by one.
 pub fn implementations() -> Vec<Implementation> {
     let all = vec![implementation::<Plain>(50), implementation::<Lean>(1)];
     #[cfg(library_linked)]
     let all = {
         let mut all = all;
         all.push(implementation::<host::library::Library>(1));
+        all.push(implementation::<host::library::OneByOne>(1));
         all
     };
     all
