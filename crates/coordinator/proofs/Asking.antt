@@ -15,7 +15,7 @@ use Rattle.coordinator.specs.Refusal.{numberOf, askRefusalTested}
 use Rattle.coordinator.specs.Change.{mark, markAsked, markReleased, withDependencies, leadTo}
 use Rattle.coordinator.specs.Release.{mayGo, release}
 use Rattle.coordinator.specs.Ask.{askedFor, afterAskTested}
-use Rattle.coordinator.proofs.Refusing.{refused}
+use Rattle.refusals.proofs.Rows.{refused}
 
 module _ (b : Bool) (s : Coordinator) (t k : ℕ) where
   pub ask-refused : (o : Option ℕ) → o ≡ askRefusalTested b s t k → (r : ℕ) → r ≡ numberOf o → ¬ (r ≡ 0)

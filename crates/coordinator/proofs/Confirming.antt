@@ -17,7 +17,7 @@ use Rattle.coordinator.specs.Change.{mark, markConfirmed, markReleased, 
 use Rattle.coordinator.specs.Release.{mayGo, mayGoAt, firstOf, release}
 use Rattle.coordinator.specs.Confirm.{releasedOne, confirmedAt, afterConfirmTested}
 use Rattle.coordinator.specs.Tables.{goingIn}
-use Rattle.coordinator.proofs.Refusing.{refused}
+use Rattle.refusals.proofs.Rows.{refused}
 
 module _ (b : Bool) (s : Coordinator) (t k : ℕ) where
   pub confirm-refused : (o : Option ℕ) → o ≡ confirmRefusalTested b s t k → (r : ℕ) → r ≡ numberOf o → ¬ (r ≡ 0)

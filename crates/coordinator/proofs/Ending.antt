@@ -1,12 +1,8 @@
 -- What close leaves, in each of the three ways that it ends. Assumes nothing.
 use mathlib.Core.Path.{_≡_, sym, _∙_}
-use mathlib.Core.Bool.{Bool, true, false, not}
-use mathlib.Core.List.{[]}
+use mathlib.Core.Bool.{Bool, true, false}
 use mathlib.Core.Option.{none}
 use Prim.Native.Nat.{ℕ, _<_}
-use native.Mathlib.Omega.{arith}
-use borrow.Author.Tests.{eqb-false}
-use lib.Dec.{eqb}
 use Rattle.mask.specs.Member.{holds, joined, lowest}
 use Rattle.mask.proofs.Change.{joined-below}
 use Rattle.tables.specs.Tables.{openIn, holdersIn}
@@ -21,19 +17,9 @@ use Rattle.coordinator.specs.Change.{markHeld}
 use Rattle.coordinator.specs.Tables.{mayCloseIn, allConfirmedIn}
 use Rattle.coordinator.specs.Close.{noTickets, closing, afterClosing, closedAt, afterCloseTested}
 use Rattle.coordinator.proofs.Tables.{may-close-is}
-use Rattle.coordinator.proofs.Refusing.{refused, passed, no-row}
+use Rattle.refusals.proofs.Rows.{refused}
+use Rattle.refusals.proofs.Passed.{close-passed}
 use Rattle.coordinator.proofs.Step.{Read, read, slot-below}
-
--- refusal number 0: no row applies
-
-some-hold : (b : Bool) (f : ℕ) (isConfirmed isHeld : Bool) → numberOf (jobRefusal b f isConfirmed isHeld) ≡ 0 → (jobRefusal b f isConfirmed isHeld ≡ none) × ¬ (f ≡ 0)
-unfolding jobRefusal
-some-hold b f isConfirmed isHeld e =
-    let a = passed (record { applies = not b; number = 10 }) _ (λ z. omega arith) e in
-    let c = passed (record { applies = eqb f 0; number = 3 }) _ (λ z. omega arith) (a .2) in
-    let d = passed (record { applies = not isConfirmed; number = 8 }) _ (λ z. omega arith) (c .2) in
-    let g = passed (record { applies = isHeld; number = 9 }) [] (λ z. omega arith) (d .2) in
-    (a .1 ∙ c .1 ∙ d .1 ∙ g .1 ∙ no-row, eqb-false f 0 (c .0))
 
 -- no row applies; f are the slots that hold ticket t, and j is that of the job
 pub record Accepted (b : Bool) (s : Coordinator) (t f j : ℕ) : Type 0 where
@@ -52,7 +38,7 @@ module _ {s : Coordinator} {t f j : ℕ} (r : Read s t f j) (b : Bool) where
   pub close-accepted : (isConfirmed isHeld : Bool) (x : ℕ) → jobRefusal b f isConfirmed isHeld ≡ closeRefusalTested b s t → x ≡ numberOf (jobRefusal b f isConfirmed isHeld) → x ≡ 0
       → Accepted b s t f j
   close-accepted isConfirmed isHeld x rows e z =
-      let p = some-hold b f isConfirmed isHeld (sym e ∙ z) in
+      let p = close-passed b f isConfirmed isHeld (sym e ∙ z) in
       record { none-applies = sym rows ∙ p .0; some = p .1; slot = r .slot; fits = slot-below r (p .1) }
 
 pub close-taken : (b : Bool) (s : Coordinator) (t f j : ℕ) (isConfirmed isHeld : Bool) (x : ℕ) → f ≡ holdersIn (s .tickets) (openIn (s .named)) t → j ≡ lowest jobs f

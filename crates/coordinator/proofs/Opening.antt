@@ -5,8 +5,7 @@ use mathlib.Core.Bool.{Bool, true, false, not}
 use mathlib.Core.List.{List, [], _∷_}
 use mathlib.Core.Option.{Option, none, some}
 use mathlib.Core.Path.{_≡_, refl, sym, ap, _∙_}
-use borrow.Author.Tests.{lt-ltb, eqb-false}
-use lib.Dec.{eqb}
+use borrow.Author.Tests.{lt-ltb}
 use lib.ListN.{length, set}
 use Rattle.loops.specs.Loop.{over}
 use Rattle.loops.specs.Table.{table}
@@ -28,21 +27,17 @@ use Rattle.coordinator.specs.Open.{freeSlot, heldTickets, ticketFor, ent
 use Rattle.coordinator.specs.Open as open-spec
 use Rattle.coordinator.specs.Tables.{ticketAt}
 use Rattle.coordinator.proofs.Reach.{ticket-there}
-use Rattle.coordinator.proofs.Refusing.{refused, passed, no-row}
+use Rattle.refusals.proofs.Rows.{refused}
+use Rattle.refusals.proofs.Passed.{open-passed}
 
 module _ (mask slots r : ℕ) (b : Bool) (e : r ≡ numberOf (slotRefusal b mask (size jobs slots))) where
   -- no refusal: there is a slot
   module _ (z : r ≡ 0) where
-    none-applies : (slotRefusal b mask (size jobs slots) ≡ none) × (eqb (size jobs slots) jobs ≡ false)
-    unfolding slotRefusal
-    none-applies =
-        let first = passed _ _ (λ h. omega arith) (sym e ∙ z) in
-        let second = passed _ _ (λ h. omega arith) (first .2) in
-        let third = passed _ _ (λ h. omega arith) (second .2) in
-        (first .1 ∙ second .1 ∙ third .1 ∙ no-row, third .0)
+    none-applies : (slotRefusal b mask (size jobs slots) ≡ none) × ¬ (size jobs slots ≡ jobs)
+    none-applies = open-passed b mask (size jobs slots) (sym e ∙ z)
 
     pub room-left : size jobs slots < jobs
-    room-left = omega (arith, eqb-false (size jobs slots) jobs (none-applies .1), size-le jobs slots)
+    room-left = omega (arith, none-applies .1, size-le jobs slots)
 
     pub slot-fits : slots < 2 ^ jobs → (n : ℕ) → n ≡ lowest jobs (2 ^ jobs - 1 - slots) → n < jobs
     slot-fits h n at = rw at (size-free jobs slots h room-left .within)

@@ -1,12 +1,9 @@
 -- What ask and confirm read of a state before they change it, and what refusal number 0 tells then. Assumes nothing.
 use mathlib.Core.Path.{_≡_, sym, _∙_}
 use mathlib.Core.Bool.{Bool, not, _||_}
-use mathlib.Core.List.{[]}
 use mathlib.Core.Option.{Option, none}
 use Prim.Native.Nat.{ℕ, _<_}
 use native.Mathlib.Omega.{arith}
-use borrow.Author.Tests.{eqb-false, ltb-true, not-false}
-use lib.Dec.{eqb, ltb}
 use Rattle.mask.specs.Member.{holds, lowest}
 use Rattle.mask.proofs.Lowest.{trailing-lowest}
 use Rattle.tables.specs.Tables.{openIn, holdersIn}
@@ -17,9 +14,10 @@ use Rattle.coordinator.specs.Views.{openSlots, inMask, asked, released, 
 use Rattle.coordinator.specs.Holder.{holders, holder}
 use Rattle.coordinator.specs.Refusal.{numberOf, stepRefusal, askRefusalTested, confirmRefusalTested}
 use Rattle.coordinator.specs.Tables.{setAt}
-use Rattle.coordinator.proofs.Reach.{set-below, rows-same}
+use Rattle.coordinator.proofs.Reach.{set-below}
 use Rattle.coordinator.proofs.Tables.{holders-are, holder-is}
-use Rattle.coordinator.proofs.Refusing.{passed, no-row}
+use Rattle.refusals.proofs.Rows.{rows-same}
+use Rattle.refusals.proofs.Passed.{step-passed}
 
 -- the slots whose job holds the ticket, and the one of them that is meant
 pub record Read (s : Coordinator) (t f j : ℕ) : Type 0 where
@@ -33,24 +31,6 @@ read s t f j q r = record { found = holders-are s t f q; slot = holder-is s t f 
 holder-below : (s : Coordinator) (t : ℕ) → ¬ (holders s t ≡ 0) → holder s t < jobs
 unfolding holder holders
 holder-below s t n = trailing-lowest jobs (holders s t) (omega arith) (holders-lt (s .tickets) (openSlots s) t) .within
-
--- refusal number 0: no row applies
-
-module _ (b : Bool) (f k : ℕ) (names applies : Bool) (m : ℕ) (n : ¬ (m ≡ 0)) (e : numberOf (stepRefusal b f k names applies m) ≡ 0) where
-  pub record Passed : Type 0 where
-    pub none-applies : stepRefusal b f k names applies m ≡ none
-    pub database : k < databases
-    pub some-hold : ¬ (f ≡ 0)
-
-  pub step-passed : Passed
-  unfolding stepRefusal
-  step-passed =
-      let a = passed (record { applies = not b; number = 10 }) _ (λ z. omega arith) e in
-      let c = passed (record { applies = eqb f 0; number = 3 }) _ (λ z. omega arith) (a .2) in
-      let d = passed (record { applies = not (ltb k databases); number = 4 }) _ (λ z. omega arith) (c .2) in
-      let g = passed (record { applies = not names; number = 5 }) _ (λ z. omega arith) (d .2) in
-      let h = passed (record { applies = applies; number = m }) [] n (g .2) in
-      record { none-applies = a .1 ∙ c .1 ∙ d .1 ∙ g .1 ∙ h .1 ∙ no-row; database = ltb-true k databases (not-false _ (d .0)); some-hold = eqb-false f 0 (c .0) }
 
 module _ {s : Coordinator} {t f j : ℕ} (r : Read s t f j) where
   pub slot-below : ¬ (f ≡ 0) → j < jobs

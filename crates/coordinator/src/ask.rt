@@ -3,7 +3,6 @@ use crate::Coordinator;
 use crate::answers::AfterAsk;
 use crate::answers::AskAnswer;
 use crate::holder;
-use crate::refusal;
 use crate::release;
 use crate::views;
 use numbers::Database;
@@ -33,7 +32,7 @@ pub fn ask_tested<'a>(
     let slot = holder::holder(found);
     let names = views::holds_at(named, database, slot);
     let applies = views::holds_at(asked, database, slot);
-    let refused = refusal::of_step(sound, found, database, names, applies, 6);
+    let refused = refusals::of_step(sound, found, database, names, applies, 6);
     if refused != 0 {
         return AskAnswer::Refused(refused);
     }

@@ -6,7 +6,6 @@ use crate::answers::Closed;
 use crate::cascade;
 use crate::holder;
 use crate::may_close;
-use crate::refusal;
 use numbers::Ticket;
 ghost use mathlib.Core.Path.{_≡_};
 ghost use Prim.Native.Nat.{ℕ};
@@ -34,7 +33,7 @@ pub fn close_tested(
     let slot = holder::holder(found);
     let finished = may_close::all_confirmed(named, confirmed, slot);
     let waits = mask::slots::holds(*held, slot.0);
-    let refused = refusal::of_close(sound, found, finished, waits);
+    let refused = refusals::of_close(sound, found, finished, waits);
     let mut answer = CloseAnswer::Refused(refused);
     if refused == 0 {
         if may_close::may_close(dependencies, slot) {

@@ -3,7 +3,6 @@ use crate::Coordinator;
 use crate::answers::AfterConfirm;
 use crate::answers::ConfirmAnswer;
 use crate::holder;
-use crate::refusal;
 use crate::release;
 use crate::views;
 use numbers::Database;
@@ -48,7 +47,7 @@ pub fn confirm_tested<'a>(
     let names = views::holds_at(named, database, slot);
     let gone = views::at(released, database);
     let settled = is_settled(gone, views::at(confirmed, database), slot);
-    let refused = refusal::of_step(sound, found, database, names, settled, 7);
+    let refused = refusals::of_step(sound, found, database, names, settled, 7);
     if refused != 0 {
         return ConfirmAnswer::Refused(refused);
     }

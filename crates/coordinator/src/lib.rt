@@ -11,7 +11,6 @@ mod holder;
 mod may_close;
 pub mod open;
 mod order;
-mod refusal;
 mod release;
 mod remove;
 mod sound;

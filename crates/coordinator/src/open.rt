@@ -3,7 +3,6 @@ use crate::Coordinator;
 use crate::answers::AfterOpen;
 use crate::answers::OpenAnswer;
 use crate::enter;
-use crate::refusal;
 use crate::tickets;
 use numbers::NumberMaker;
 ghost use mathlib.Core.List.{List};
@@ -30,7 +29,7 @@ pub fn open_tested(
     ensures { λ r. ⌜ (length (now (tickets .entry)) ≡ jobs → (held : ℕ) (asked confirmed : List ℕ) → _≡_ {A = AfterOpen} (record { answer = r; state = stateOf (now (tickets .exit)) held (now (order .exit)) (now (named .exit)) asked (now (released .entry)) confirmed (now (dependencies .exit)) (now (next .exit)) }) (afterOpenTested sound (stateOf (now (tickets .entry)) held (now (order .entry)) (now (named .entry)) asked (now (released .entry)) confirmed (now (dependencies .entry)) (now (next .entry))) mask)) ⌝ }
 {
     let slots = tables::slots::open_slots(named);
-    let refused = refusal::of_open(sound, mask, slots);
+    let refused = refusals::of_open(sound, mask, slots);
     if refused != 0 {
         return OpenAnswer::Refused(refused);
     }

@@ -11,6 +11,8 @@ use Rattle.search.specs.declared.Sought.{Sought}
 use Rattle.search.specs.Search.{sought}
 use Rattle.tables.specs.Tables.{openIn, holdersIn}
 use Rattle.tables.specs.Test.{soundIn}
+use Rattle.tables.specs.Limits.{jobs}
+use Rattle.refusals.specs.Refusal.{numberOf, slotRefusal, stepRefusal, jobRefusal}
 use Rattle.coordinator.specs.declared.Coordinator.{Coordinator}
 use Rattle.coordinator.specs.declared.answers.AfterOpen.{AfterOpen}
 use Rattle.coordinator.specs.declared.answers.AfterAsk.{AfterAsk}
@@ -46,6 +48,10 @@ pub record Determined : Type 0 where
   pub holders-of : (tickets named : List ℕ) (t : ℕ) → Determines (λ (r : ℕ). r ≡ holdersIn tickets (openIn named) t)
   pub all-sound : (tickets : List ℕ) (held : ℕ) (order named asked released confirmed dependencies : List ℕ)
       → Determines (λ (r : Bool). r ≡ soundIn tickets held order named asked released confirmed dependencies)
+  -- its refusals
+  pub of-open : (sound : Bool) (mask slots : ℕ) → Determines (λ (r : ℕ). r ≡ numberOf (slotRefusal sound mask (size jobs slots)))
+  pub of-step : (sound : Bool) (found k : ℕ) (names applies : Bool) (number : ℕ) → Determines (λ (r : ℕ). r ≡ numberOf (stepRefusal sound found k names applies number))
+  pub of-close : (sound : Bool) (found : ℕ) (confirmed held : Bool) → Determines (λ (r : ℕ). r ≡ numberOf (jobRefusal sound found confirmed held))
   -- the opening search
   pub search : (named dependencies : List ℕ) (n : ℕ) → Determines (λ (r : Sought). r ≡ sought named dependencies n)
   -- the number maker. `take` gives the ticket and leaves the number maker behind the reference; `hand_out` gives both back.

@@ -10,7 +10,7 @@ use Rattle.coordinator.proofs.ask.ask_tested.Reads as reads
 use Rattle.coordinator.proofs.ask.ask_tested.Lts as lts
 use Rattle.coordinator.proofs.holder.holder.Reads as holder-reads
 use Rattle.tables.proofs.holders.holders_of.Reads as holders-of-reads
-use Rattle.coordinator.proofs.refusal.of_step.Reads as of-step-reads
+use Rattle.refusals.proofs.of_step.Reads as of-step-reads
 use Rattle.coordinator.proofs.release.lead_to.Reads as lead-to-reads
 use Rattle.coordinator.proofs.release.mark.Reads as mark-reads
 use Rattle.coordinator.proofs.release.may_go.Reads as may-go-reads

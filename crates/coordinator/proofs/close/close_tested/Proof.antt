@@ -13,7 +13,7 @@ use Rattle.coordinator.proofs.holder.holder.Reads as holder-reads
 use Rattle.tables.proofs.holders.holders_of.Reads as holders-of-reads
 use Rattle.coordinator.proofs.may_close.all_confirmed.Reads as all-confirmed-reads
 use Rattle.coordinator.proofs.may_close.may_close.Reads as may-close-reads
-use Rattle.coordinator.proofs.refusal.of_close.Reads as of-close-reads
+use Rattle.refusals.proofs.of_close.Reads as of-close-reads
 use Rattle.mask.proofs.slots.holds.Reads as holds-reads
 use Rattle.mask.proofs.slots.with_member.Reads as with-member-reads
 

@@ -12,7 +12,7 @@ use Rattle.coordinator.proofs.confirm.confirm_tested.Lts as lts
 use Rattle.coordinator.proofs.confirm.is_settled.Reads as is-settled-reads
 use Rattle.coordinator.proofs.holder.holder.Reads as holder-reads
 use Rattle.tables.proofs.holders.holders_of.Reads as holders-of-reads
-use Rattle.coordinator.proofs.refusal.of_step.Reads as of-step-reads
+use Rattle.refusals.proofs.of_step.Reads as of-step-reads
 use Rattle.coordinator.proofs.release.first_of.Reads as first-of-reads
 use Rattle.coordinator.proofs.release.going_of.Reads as going-of-reads
 use Rattle.coordinator.proofs.release.lead_to.Reads as lead-to-reads

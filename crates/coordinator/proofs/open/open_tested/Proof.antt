@@ -12,7 +12,7 @@ use Rattle.coordinator.proofs.enter.add_found.Reads as add-found-reads
 use Rattle.coordinator.proofs.enter.free_slot.Reads as free-slot-reads
 use Rattle.coordinator.proofs.enter.lead_released.Reads as lead-released-reads
 use Rattle.coordinator.proofs.enter.name_databases.Reads as name-databases-reads
-use Rattle.coordinator.proofs.refusal.of_open.Reads as of-open-reads
+use Rattle.refusals.proofs.of_open.Reads as of-open-reads
 use Rattle.coordinator.proofs.tickets.hand_out.Reads as hand-out-reads
 use Rattle.tables.proofs.slots.open_slots.Reads as open-slots-reads
 use Rattle.mask.proofs.slots.size.Reads as size-reads

@@ -1,17 +1,17 @@
-// Refusals, by the rows of document 01's table: the number of the first that applies, or 0.
-use crate::Coordinator;
+// Refusals, by the rows of document 01's table: the number of the first that applies, or 0. What a row asks is told in plain values; there is no state here.
 use numbers::Database;
+use numbers::Slot;
 ghost use mathlib.Core.Path.{_≡_};
 ghost use Rattle.mask.specs.Member.{size};
-ghost use Rattle.coordinator.specs.Limits.{jobs};
-ghost use Rattle.coordinator.specs.Refusal.{numberOf, slotRefusal, stepRefusal, jobRefusal};
+ghost use Rattle.tables.specs.Limits.{jobs};
+ghost use Rattle.refusals.specs.Refusal.{numberOf, slotRefusal, stepRefusal, jobRefusal};
 
 // Of open.
-pub(crate) fn of_open(sound: bool, mask: u16, slots: u32) -> u8
+pub fn of_open(sound: bool, mask: u16, slots: u32) -> u8
     ensures { λ r. ⌜ r ≡ numberOf (slotRefusal sound mask (size jobs slots)) ⌝ }
 {
     let names_none = mask == 0;
-    let is_full = mask::slots::size(slots) as usize == Coordinator::JOBS;
+    let is_full = mask::slots::size(slots) as usize == Slot::COUNT;
     if !sound {
         return 10;
     }
@@ -25,14 +25,7 @@ pub(crate) fn of_open(sound: bool, mask: u16, slots: u32) -> u8
 }
 
 // Of ask and confirm. `found` are the slots that hold the ticket, `names` says whether the job names database k; the last row is the call's own.
-pub(crate) fn of_step(
-    sound: bool,
-    found: u32,
-    k: Database,
-    names: bool,
-    applies: bool,
-    number: u8,
-) -> u8
+pub fn of_step(sound: bool, found: u32, k: Database, names: bool, applies: bool, number: u8) -> u8
     ensures { λ r. ⌜ r ≡ numberOf (stepRefusal sound found (k .0) names applies number) ⌝ }
 {
     if !sound {
@@ -41,7 +34,7 @@ pub(crate) fn of_step(
     if found == 0 {
         return 3;
     }
-    if k.0 as usize >= Coordinator::DATABASES {
+    if k.0 as usize >= Database::COUNT {
         return 4;
     }
     if !names {
@@ -54,7 +47,7 @@ pub(crate) fn of_step(
 }
 
 // Of close. `confirmed` says whether every step of the job is, `held` whether its close is.
-pub(crate) fn of_close(sound: bool, found: u32, confirmed: bool, held: bool) -> u8
+pub fn of_close(sound: bool, found: u32, confirmed: bool, held: bool) -> u8
     ensures { λ r. ⌜ r ≡ numberOf (jobRefusal sound found confirmed held) ⌝ }
 {
     if !sound {

@@ -1,7 +1,7 @@
 use borrow.Author.Needs.{needs}
-use Rattle.coordinator.specs.Refusal.{firstRow, slotRefusal}
-use Rattle.coordinator.proofs.refusal.of_open.Statement.{statement}
-use Rattle.coordinator.proofs.refusal.of_open.Tie as tie
+use Rattle.refusals.specs.Refusal.{firstRow, slotRefusal}
+use Rattle.refusals.proofs.of_open.Statement.{statement}
+use Rattle.refusals.proofs.of_open.Tie as tie
 
 size-requires : tie.Need-size-requires
 size-requires c κs = search needs

@@ -1,7 +1,7 @@
 use borrow.Author.Tests.{eq-eqb, ne-eqb}
-use Rattle.coordinator.specs.Refusal.{firstRow, jobRefusal}
-use Rattle.coordinator.proofs.refusal.of_close.Statement.{statement}
-use Rattle.coordinator.proofs.refusal.of_close.Tie as tie
+use Rattle.refusals.specs.Refusal.{firstRow, jobRefusal}
+use Rattle.refusals.proofs.of_close.Statement.{statement}
+use Rattle.refusals.proofs.of_close.Tie as tie
 
 returns : tie.Need-returns
 unfolding jobRefusal firstRow

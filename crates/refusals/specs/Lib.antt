@@ -1,0 +1,2 @@
+-- The rows of the refusals of each call: `Refusal`.
+pub mod Refusal
