@@ -8,6 +8,7 @@ use mathlib.Core.Path.{_≡_, refl, sym, ap, _∙_}
 use borrow.Author.Tests.{lt-ltb}
 use lib.ListN.{length, set}
 use Rattle.loops.specs.Loop.{over}
+use Rattle.loops.specs.Sum.{sum}
 use Rattle.loops.specs.Table.{table}
 use Rattle.mask.specs.Member.{lowest, size}
 use Rattle.mask.specs.Members.{overMembers}
@@ -15,6 +16,7 @@ use Rattle.mask.proofs.Size.{size-le, size-free}
 use Rattle.numbers.specs.declared.Ticket.{Ticket}
 use Rattle.numbers.specs.declared.NumberMaker.{NumberMaker}
 use Rattle.numbers.specs.Ticket.{ticketFrom, after}
+use Rattle.search.specs.declared.Sought.{Sought}
 use Rattle.search.specs.Search.{searched, sought}
 use Rattle.coordinator.specs.declared.Coordinator.{Coordinator}
 use Rattle.coordinator.specs.declared.answers.OpenAnswer.{OpenAnswer}
@@ -57,13 +59,13 @@ module _ (mask slots r : ℕ) (b : Bool) (e : r ≡ numberOf (slotRefusal b mask
 
 -- what the code has done when it accepts, in slot n
 module _
-    (s : Coordinator) (mask slots n count : ℕ) (t : Ticket) (next : NumberMaker) (named before left : List ℕ) (more moves : ℕ)
+    (s : Coordinator) (mask slots n count : ℕ) (t : Ticket) (next : NumberMaker) (named before left : List ℕ) (result : Sought) (more : ℕ)
     (sized : length (s .tickets) ≡ jobs) (q : slots ≡ openSlots s) (below : n < jobs) (c : count ≡ size jobs slots)
     (given : t .0 ≡ ticketFrom (table count (λ i. ticketAt (s .tickets) (entry (s .order) i))) (s .maker .next)) (moved : next .next ≡ after (t .0))
     (marked : named ≡ overMembers databases mask (λ k l. mark l k n) (s .named))
     (led : before ≡ overMembers databases mask (λ k. lead k (entry (s .released) k) n) (s .dependencies))
-    (found : left ≡ over databases (λ k. lead k (entry (sought named before n .found) k) n) before)
-    (counted : more ≡ added (sought named before n .found)) (walked : moves ≡ sought named before n .moves)
+    (walked : result ≡ sought named before n) (found : left ≡ over databases (λ k. lead k (entry (result .found) k) n) before)
+    (counted : more ≡ sum databases (λ k. size jobs (entry (result .found) k)))
   where
     number-is : t .0 ≡ ticketFor s
     unfolding ticketFor heldTickets ticket opened openCount
@@ -83,7 +85,7 @@ module _
     sought-is = rw (sought, lt-ltb n jobs below)
 
     pub opened-at : record {
-      answer = OpenAnswer.Opened t more moves;
+      answer = OpenAnswer.Opened t more (result .moves);
       state = record {
         tickets = set (s .tickets) n (t .0);
         held = s .held;
@@ -96,5 +98,5 @@ module _
         maker = next;
       };
     } ≡ accepted s n mask
-    unfolding accepted entered taken withDependencies withFound openCount searched open-spec.searched names inMask dep into
-    opened-at = rw (counted, walked, found, sought-is, marked, led, ticket-is, maker-is, c, q)
+    unfolding accepted added entered taken withDependencies withFound openCount searched open-spec.searched names inMask dep into
+    opened-at = rw (counted, found, walked, sought-is, marked, led, ticket-is, maker-is, c, q)

@@ -2,8 +2,8 @@
 use crate::Coordinator;
 use crate::answers::AfterAsk;
 use crate::answers::AskAnswer;
-use crate::holder;
 use crate::release;
+use crate::slots;
 use crate::views;
 use numbers::Database;
 use numbers::Ticket;
@@ -29,7 +29,7 @@ pub fn ask_tested<'a>(
     ensures { λ r. ⌜ ((held next : ℕ) (order : List ℕ) → _≡_ {A = AfterAsk} (record { answer = r; state = stateOf (now (tickets .entry)) held order (now (named .entry)) (now (asked .exit)) (now (released .exit)) (now (confirmed .entry)) (now (dependencies .exit)) next }) (afterAskTested sound (stateOf (now (tickets .entry)) held order (now (named .entry)) (now (asked .entry)) (now (released .entry)) (now (confirmed .entry)) (now (dependencies .entry)) next) (ticket .0) (database .0))) ⌝ }
 {
     let found = tables::holders::holders_of(tickets, named, ticket);
-    let slot = holder::holder(found);
+    let slot = slots::lowest_of(found);
     let names = views::holds_at(named, database, slot);
     let applies = views::holds_at(asked, database, slot);
     let refused = refusals::of_step(sound, found, database, names, applies, 6);
@@ -38,7 +38,8 @@ pub fn ask_tested<'a>(
     }
     let k = database.0 as usize;
     release::mark(asked, database, slot);
-    if !release::may_go(dependencies, database, slot, confirmed[k]) {
+    let step = k * Coordinator::JOBS + slot.0 as usize;
+    if !release::may_go(dependencies[step], confirmed[k]) {
         return AskAnswer::Held;
     }
     release::mark(released, database, slot);

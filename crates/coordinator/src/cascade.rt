@@ -4,8 +4,8 @@ use crate::answers::CloseAnswer;
 use crate::answers::Closed;
 use crate::may_close;
 use crate::order;
-use crate::release;
 use crate::remove;
+use crate::slots;
 ghost use mathlib.Core.Path.{_≡_};
 ghost use Prim.Native.Nat.{ℕ};
 ghost use Rattle.mask.specs.Member.{lowest};
@@ -33,7 +33,7 @@ pub(crate) fn close_from(
     let mut count = 0usize;
     let mut left = found;
     while left != 0 {
-        let j = release::first_of(left);
+        let j = slots::lowest_of(left);
         let at = j.0 as usize;
         closed[count] = tickets[at];
         count = count + 1;

@@ -4,8 +4,8 @@ use crate::answers::AfterClose;
 use crate::answers::CloseAnswer;
 use crate::answers::Closed;
 use crate::cascade;
-use crate::holder;
 use crate::may_close;
+use crate::slots;
 use numbers::Ticket;
 ghost use mathlib.Core.Path.{_≡_};
 ghost use Prim.Native.Nat.{ℕ};
@@ -30,7 +30,7 @@ pub fn close_tested(
     ensures { λ r. ⌜ ((next : ℕ) → _≡_ {A = AfterClose} (record { answer = r .answer; tickets = r .tickets; state = stateOf (now (tickets .exit)) (now (held .exit)) (now (order .exit)) (now (named .exit)) (now (asked .exit)) (now (released .exit)) (now (confirmed .exit)) (now (dependencies .exit)) next }) (afterCloseTested sound (stateOf (now (tickets .entry)) (now (held .entry)) (now (order .entry)) (now (named .entry)) (now (asked .entry)) (now (released .entry)) (now (confirmed .entry)) (now (dependencies .entry)) next) (ticket .0))) ⌝ }
 {
     let found = tables::holders::holders_of(tickets, named, ticket);
-    let slot = holder::holder(found);
+    let slot = slots::lowest_of(found);
     let finished = may_close::all_confirmed(named, confirmed, slot);
     let waits = mask::slots::holds(*held, slot.0);
     let refused = refusals::of_close(sound, found, finished, waits);

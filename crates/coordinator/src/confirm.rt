@@ -2,8 +2,8 @@
 use crate::Coordinator;
 use crate::answers::AfterConfirm;
 use crate::answers::ConfirmAnswer;
-use crate::holder;
 use crate::release;
+use crate::slots;
 use crate::views;
 use numbers::Database;
 use numbers::Slot;
@@ -43,7 +43,7 @@ pub fn confirm_tested<'a>(
     ensures { λ r. ⌜ ((held next : ℕ) (order : List ℕ) → _≡_ {A = AfterConfirm} (record { answer = r; state = stateOf (now (tickets .entry)) held order (now (named .entry)) (now (asked .entry)) (now (released .exit)) (now (confirmed .exit)) (now (dependencies .exit)) next }) (afterConfirmTested sound (stateOf (now (tickets .entry)) held order (now (named .entry)) (now (asked .entry)) (now (released .entry)) (now (confirmed .entry)) (now (dependencies .entry)) next) (ticket .0) (database .0))) ⌝ }
 {
     let found = tables::holders::holders_of(tickets, named, ticket);
-    let slot = holder::holder(found);
+    let slot = slots::lowest_of(found);
     let names = views::holds_at(named, database, slot);
     let gone = views::at(released, database);
     let settled = is_settled(gone, views::at(confirmed, database), slot);
@@ -57,11 +57,12 @@ pub fn confirm_tested<'a>(
     if free == 0 {
         return ConfirmAnswer::Nothing;
     }
-    let first = release::first_of(free);
+    let first = slots::lowest_of(free);
     release::mark(released, database, first);
     let later = mask::slots::less(named[k], released[k]);
     release::lead_to(dependencies, database, first, later);
-    ConfirmAnswer::Released(views::ticket(tickets, first))
+    let at = first.0 as usize;
+    ConfirmAnswer::Released(Ticket(tickets[at]))
 }
 
 impl Coordinator {

@@ -1,28 +1,15 @@
 // What an opening does to the tables.
 use crate::Coordinator;
-use crate::count;
 use crate::release;
 use numbers::Database;
 use numbers::Slot;
 ghost use mathlib.Core.Path.{_≡_};
-ghost use Prim.Native.Nat.{ℕ, _-_, _^_, _<_};
+ghost use Prim.Native.Nat.{ℕ, _<_};
 ghost use Rattle.loops.specs.Loop.{over};
-ghost use Rattle.mask.specs.Member.{lowest};
 ghost use Rattle.mask.specs.Members.{overMembers};
 ghost use Rattle.coordinator.specs.Limits.{jobs, databases};
 ghost use Rattle.coordinator.specs.Views.{entry};
-ghost use Rattle.search.specs.Search.{sought};
 ghost use Rattle.coordinator.specs.Change.{mark, lead};
-ghost use Rattle.coordinator.specs.Open.{added};
-
-// The lowest free slot, or JOBS where there is none.
-pub(crate) fn free_slot(slots: u32) -> Slot
-    ensures { λ r. ⌜ r .0 ≡ lowest jobs (2 ^ jobs - 1 - slots) ⌝ }
-{
-    let free = !slots;
-    let low = mask::slots::lowest(free) as u8;
-    Slot(low)
-}
 
 // The job in slot n names the databases of its mask.
 pub(crate) fn name_databases(named: &mut [u32; Coordinator::DATABASES], mask: u16, n: Slot)
@@ -66,7 +53,7 @@ pub(crate) fn lead_released(
 }
 
 // What was found goes before the job in slot n.
-fn lead_found(
+pub(crate) fn lead_found(
     dependencies: &mut [u32; Coordinator::STEPS],
     found: &[u32; Coordinator::DATABASES],
     n: Slot,
@@ -77,27 +64,4 @@ fn lead_found(
     for k in 0..Coordinator::DATABASES {
         lead(dependencies, k, found[k], n);
     }
-}
-
-// How many dependencies the search found, and its moves.
-pub struct Found {
-    pub added: u32,
-    pub moves: u32,
-}
-
-// Runs the search for the job in slot n, and adds what it finds.
-pub(crate) fn add_found(
-    dependencies: &mut [u32; Coordinator::STEPS],
-    named: &[u32; Coordinator::DATABASES],
-    n: Slot,
-) -> Found
-    requires { ⌜ n .0 < jobs ⌝ }
-    ensures { λ r. ⌜ (now (dependencies .exit) ≡ over databases (λ k. lead k (entry (sought (now (named .entry)) (now (dependencies .entry)) (n .0) .found) k) (n .0)) (now (dependencies .entry))) × (r .added ≡ added (sought (now (named .entry)) (now (dependencies .entry)) (n .0) .found)) × (r .moves ≡ sought (now (named .entry)) (now (dependencies .entry)) (n .0) .moves) ⌝ }
-{
-    let sought = search::search(named, dependencies, n);
-    let found = sought.found;
-    lead_found(dependencies, &found, n);
-    let added = count::count_all(&found);
-    let moves = sought.moves;
-    Found { added, moves }
 }

@@ -1,6 +1,6 @@
 // When a job may close: its steps are confirmed, and nobody goes before it any more.
 use crate::Coordinator;
-use crate::release::first_of;
+use crate::slots;
 use numbers::Slot;
 ghost use mathlib.Core.Bool.{not, _&&_};
 ghost use mathlib.Core.Path.{_≡_};
@@ -17,21 +17,7 @@ fn unconfirmed(named: u32, confirmed: u32) -> u32
     mask::slots::less(named, confirmed)
 }
 
-// The slots with a step that is not confirmed.
-fn unfinished<'a>(
-    named: &'a [u32; Coordinator::DATABASES],
-    confirmed: &'a [u32; Coordinator::DATABASES],
-) -> u32
-    ensures { λ r. ⌜ ((j : ℕ) → holds r j ≡ not (allConfirmedIn (now (named .entry)) (now (confirmed .entry)) j)) ⌝ }
-{
-    let mut m = 0u32;
-    for k in 0..Coordinator::DATABASES {
-        m = m | unconfirmed(named[k], confirmed[k]);
-    }
-    m
-}
-
-// Every step of the job in slot j is confirmed.
+// Every step of the job in slot j is confirmed: it is not among those with a step that isn't.
 pub(crate) fn all_confirmed<'a>(
     named: &'a [u32; Coordinator::DATABASES],
     confirmed: &'a [u32; Coordinator::DATABASES],
@@ -39,7 +25,11 @@ pub(crate) fn all_confirmed<'a>(
 ) -> bool
     ensures { λ r. ⌜ r ≡ allConfirmedIn (now (named .entry)) (now (confirmed .entry)) (j .0) ⌝ }
 {
-    !mask::slots::holds(unfinished(named, confirmed), j.0)
+    let mut unfinished = 0u32;
+    for k in 0..Coordinator::DATABASES {
+        unfinished = unfinished | unconfirmed(named[k], confirmed[k]);
+    }
+    !mask::slots::holds(unfinished, j.0)
 }
 
 // No dependency goes into the job in slot j at any database.
@@ -75,7 +65,7 @@ pub(crate) fn may_close_now(dependencies: &[u32; Coordinator::STEPS], held: u32)
     let mut found = 0u32;
     let mut left = held;
     while left != 0 {
-        let j = first_of(left);
+        let j = slots::lowest_of(left);
         found = found | free(dependencies, j);
         left = mask::slots::rest(left);
     }

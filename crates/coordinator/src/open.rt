@@ -2,7 +2,9 @@
 use crate::Coordinator;
 use crate::answers::AfterOpen;
 use crate::answers::OpenAnswer;
+use crate::count;
 use crate::enter;
+use crate::slots;
 use crate::tickets;
 use numbers::NumberMaker;
 ghost use mathlib.Core.List.{List};
@@ -33,7 +35,7 @@ pub fn open_tested(
     if refused != 0 {
         return OpenAnswer::Refused(refused);
     }
-    let n = enter::free_slot(slots);
+    let n = slots::lowest_of(!slots);
     let open = mask::slots::size(slots) as usize;
     let candidate = NumberMaker { next: *next };
     let handed = tickets::hand_out(candidate, tickets, order, open);
@@ -44,11 +46,14 @@ pub fn open_tested(
     order[open] = n.0;
     enter::name_databases(named, mask, n);
     enter::lead_released(dependencies, released, mask, n);
-    let found = enter::add_found(dependencies, named, n);
+    let sought = search::search(named, dependencies, n);
+    let found = sought.found;
+    enter::lead_found(dependencies, &found, n);
+    let added = count::count_all(&found);
     OpenAnswer::Opened {
         ticket,
-        added: found.added,
-        moves: found.moves,
+        added,
+        moves: sought.moves,
     }
 }
 

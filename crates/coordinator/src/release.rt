@@ -5,31 +5,17 @@ use numbers::Slot;
 ghost use mathlib.Core.Path.{_≡_};
 ghost use Prim.Native.Nat.{ℕ, _+_, _*_, _^_, _<_};
 ghost use Rattle.loops.specs.Sum.{tally};
-ghost use Rattle.mask.specs.Member.{within, lowest};
+ghost use Rattle.mask.specs.Member.{within};
 ghost use Rattle.coordinator.specs.Limits.{jobs, databases};
 ghost use Rattle.coordinator.specs.Views.{entry};
 ghost use Rattle.coordinator.specs.Change.{mark, leadTo};
 ghost use Rattle.coordinator.specs.Tables.{goingIn};
 
-// Every one that leads into a step is confirmed.
-fn all_confirmed(into: u32, confirmed: u32) -> bool
+// A step may go: every one that leads into it is confirmed.
+pub(crate) fn may_go(into: u32, confirmed: u32) -> bool
     ensures { λ r. ⌜ r ≡ within jobs into confirmed ⌝ }
 {
     into & !confirmed == 0
-}
-
-// Slot j's step at database k may go.
-pub(crate) fn may_go(
-    dependencies: &[u32; Coordinator::STEPS],
-    k: Database,
-    j: Slot,
-    confirmed: u32,
-) -> bool
-    requires { ⌜ (k .0 < databases) × (j .0 < jobs) ⌝ }
-    ensures { λ r. ⌜ r ≡ within jobs (entry (now (dependencies .entry)) (k .0 * jobs + j .0)) confirmed ⌝ }
-{
-    let step = k.0 as usize * Coordinator::JOBS + j.0 as usize;
-    all_confirmed(dependencies[step], confirmed)
 }
 
 // Slot j joins the set at database k.
@@ -67,11 +53,7 @@ fn going(into: u32, confirmed: u32, j: usize) -> u32
     requires { ⌜ j < jobs ⌝ }
     ensures { λ r. ⌜ r ≡ tally (within jobs into confirmed) * 2 ^ j ⌝ }
 {
-    if all_confirmed(into, confirmed) {
-        1 << j
-    } else {
-        0
-    }
+    if may_go(into, confirmed) { 1 << j } else { 0 }
 }
 
 // The asked and unreleased steps at database k that may go. All rows are read without a branch: that is faster than to pick those that wait.
@@ -91,11 +73,4 @@ pub(crate) fn going_of(
         free = free | going(dependencies[first + j], confirmed, j);
     }
     mask::slots::less(asked, released) & free
-}
-
-// Of those that may go, the one that goes: the lowest slot.
-pub(crate) fn first_of(set: u32) -> Slot
-    ensures { λ r. ⌜ r .0 ≡ lowest jobs set ⌝ }
-{
-    Slot(mask::slots::lowest(set) as u8)
 }

@@ -2,12 +2,8 @@
 use crate::Coordinator;
 use numbers::Database;
 use numbers::Slot;
-use numbers::Ticket;
 ghost use mathlib.Core.Path.{_≡_};
-ghost use Prim.Native.Nat.{_<_};
 ghost use Rattle.mask.specs.Member.{holds};
-ghost use Rattle.coordinator.specs.Limits.{jobs};
-ghost use Rattle.coordinator.specs.Views.{entry};
 ghost use Rattle.coordinator.specs.Tables.{setAt};
 
 // The set at database k; beyond the last database there is none.
@@ -27,13 +23,4 @@ pub(crate) fn holds_at(sets: &[u32; Coordinator::DATABASES], k: Database, j: Slo
     ensures { λ r. ⌜ r ≡ holds (setAt (now (sets .entry)) (k .0)) (j .0) ⌝ }
 {
     mask::slots::holds(at(sets, k), j.0)
-}
-
-// The ticket of the job in slot j.
-pub(crate) fn ticket(tickets: &[u16; Coordinator::JOBS], j: Slot) -> Ticket
-    requires { ⌜ j .0 < jobs ⌝ }
-    ensures { λ r. ⌜ r .0 ≡ entry (now (tickets .entry)) (j .0) ⌝ }
-{
-    let i = j.0 as usize;
-    Ticket(tickets[i])
 }

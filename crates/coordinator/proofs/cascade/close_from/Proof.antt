@@ -13,7 +13,7 @@ use Rattle.coordinator.proofs.cascade.close_from.Lts as lts
 use Rattle.coordinator.proofs.may_close.may_close_now.Reads as may-close-now-reads
 use Rattle.coordinator.proofs.order.moved_up.Reads as moved-up-reads
 use Rattle.coordinator.proofs.order.place.Reads as place-reads
-use Rattle.coordinator.proofs.release.first_of.Reads as first-of-reads
+use Rattle.coordinator.proofs.slots.lowest_of.Reads as lowest-of-reads
 use Rattle.coordinator.proofs.remove.strike.Reads as strike-reads
 use Rattle.coordinator.proofs.remove.strike_rows.Reads as strike-rows-reads
 use Rattle.coordinator.proofs.remove.unlead.Reads as unlead-reads
@@ -32,8 +32,8 @@ loop-holds : tie.Need-loop-holds Inv-loop μ-loop
 loop-holds c = λ next. going-start _ _ (c .pre) (c .fits .found .fits)
 
 -- src/cascade.rt:36:13
-first-of-requires : tie.Need-first-of-requires Inv-loop μ-loop
-first-of-requires c κs = search needs
+lowest-of-requires : tie.Need-lowest-of-requires Inv-loop μ-loop
+lowest-of-requires c κs = search needs
 
 -- src/cascade.rt:37:18
 cast-at : tie.Need-cast-at Inv-loop μ-loop
@@ -45,7 +45,7 @@ mul-closed c = search needs
 
 -- src/cascade.rt:38:25
 element-copy-out-closed : tie.Need-element-copy-out-closed Inv-loop μ-loop
-element-copy-out-closed c = going-slot (c .before .before .before .loop .inv 0) (c .before .before .loop-test .taken) _ (c .before .first-of .ensures)
+element-copy-out-closed c = going-slot (c .before .before .before .loop .inv 0) (c .before .before .loop-test .taken) _ (c .before .lowest-of .ensures)
 
 -- src/cascade.rt:38:9
 mul-closed-2 : tie.Need-mul-closed-2 Inv-loop μ-loop
@@ -65,7 +65,7 @@ mul-tickets c = search needs
 
 -- src/cascade.rt:40:9
 element-write-tickets : tie.Need-element-write-tickets Inv-loop μ-loop
-element-write-tickets c = going-slot (c .before .before .before .before .loop .inv 0) (c .before .before .before .loop-test .taken) _ (c .before .before .first-of .ensures)
+element-write-tickets c = going-slot (c .before .before .before .before .loop .inv 0) (c .before .before .before .loop-test .taken) _ (c .before .before .lowest-of .ensures)
 
 -- src/cascade.rt:41:17
 without-member-requires : tie.Need-without-member-requires Inv-loop μ-loop
@@ -101,7 +101,7 @@ strike-rows-requires c κs = search needs
 
 -- src/cascade.rt:49:9
 unlead-requires : tie.Need-unlead-requires Inv-loop μ-loop
-unlead-requires c κs = going-slot (c .before .before .before .before .before .before .before .before .before .before .before .before .before .before .before .before .before .before .before .before .before .loop .inv 0) (c .before .before .before .before .before .before .before .before .before .before .before .before .before .before .before .before .before .before .before .before .loop-test .taken) _ (c .before .before .before .before .before .before .before .before .before .before .before .before .before .before .before .before .before .before .before .first-of .ensures)
+unlead-requires c κs = going-slot (c .before .before .before .before .before .before .before .before .before .before .before .before .before .before .before .before .before .before .before .before .before .loop .inv 0) (c .before .before .before .before .before .before .before .before .before .before .before .before .before .before .before .before .before .before .before .before .loop-test .taken) _ (c .before .before .before .before .before .before .before .before .before .before .before .before .before .before .before .before .before .before .before .lowest-of .ensures)
 
 -- src/cascade.rt:50:9
 may-close-now-requires : tie.Need-may-close-now-requires Inv-loop μ-loop
@@ -113,7 +113,7 @@ loop-less c = omega (arith, going-room (c .before .before .before .before .befor
 
 -- src/cascade.rt:35:5
 loop-again : tie.Need-loop-again Inv-loop μ-loop
-loop-again c = λ next. going-turn (c .before .before .before .before .before .before .before .before .before .before .before .before .before .before .before .before .before .before .before .before .before .before .before .before .loop .inv next) (c .before .before .before .before .before .before .before .before .before .before .before .before .before .before .before .before .before .before .before .before .before .before .before .loop-test .taken) _ _ _ (removed-made (stateOf (c .before .before .before .before .before .before .before .before .before .before .before .before .before .before .before .before .before .before .before .before .before .before .before .before .loop .tickets) (c .before .before .before .before .before .before .before .before .before .before .before .before .before .before .before .before .before .before .before .before .before .before .before .before .loop .held) (c .before .before .before .before .before .before .before .before .before .before .before .before .before .before .before .before .before .before .before .before .before .before .before .before .loop .order) (c .before .before .before .before .before .before .before .before .before .before .before .before .before .before .before .before .before .before .before .before .before .before .before .before .loop .named) (c .before .before .before .before .before .before .before .before .before .before .before .before .before .before .before .before .before .before .before .before .before .before .before .before .loop .asked) (c .before .before .before .before .before .before .before .before .before .before .before .before .before .before .before .before .before .before .before .before .before .before .before .before .loop .released) (c .before .before .before .before .before .before .before .before .before .before .before .before .before .before .before .before .before .before .before .before .before .before .before .before .loop .confirmed) (c .before .before .before .before .before .before .before .before .before .before .before .before .before .before .before .before .before .before .before .before .before .before .before .before .loop .dependencies) next) _ _ (c .before .before .before .before .before .before .before .before .before .before .before .before .before .before .before .before .before .before .before .before .before .before .first-of .ensures) _ _ _ _ _ _ _ _ _ (c .before .before .before .before .before .before .before .before .before .before .before .before .before .before .before .before .before .before .without-member .ensures) (c .before .before .before .before .before .before .before .before .before .before .before .before .before .before .before .before .place .ensures) (c .before .before .before .before .before .before .before .before .before .before .before .before .before .before .moved-up .ensures) (c .before .before .before .before .before .before .before .before .before .before .before .before .strike .ensures) (c .before .before .before .before .before .before .before .before .before .before .strike2 .ensures) (c .before .before .before .before .before .before .before .before .strike3 .ensures) (c .before .before .before .before .before .before .strike4 .ensures) (c .before .before .before .before .strike-rows .ensures) (c .before .before .unlead .ensures)) (rw (c .before .before .before .before .before .before .before .before .before .before .before .before .before .before .before .before .before .before .before .before .before .before .first-of .ensures)) (c .may-close-now .ensures)
+loop-again c = λ next. going-turn (c .before .before .before .before .before .before .before .before .before .before .before .before .before .before .before .before .before .before .before .before .before .before .before .before .loop .inv next) (c .before .before .before .before .before .before .before .before .before .before .before .before .before .before .before .before .before .before .before .before .before .before .before .loop-test .taken) _ _ _ (removed-made (stateOf (c .before .before .before .before .before .before .before .before .before .before .before .before .before .before .before .before .before .before .before .before .before .before .before .before .loop .tickets) (c .before .before .before .before .before .before .before .before .before .before .before .before .before .before .before .before .before .before .before .before .before .before .before .before .loop .held) (c .before .before .before .before .before .before .before .before .before .before .before .before .before .before .before .before .before .before .before .before .before .before .before .before .loop .order) (c .before .before .before .before .before .before .before .before .before .before .before .before .before .before .before .before .before .before .before .before .before .before .before .before .loop .named) (c .before .before .before .before .before .before .before .before .before .before .before .before .before .before .before .before .before .before .before .before .before .before .before .before .loop .asked) (c .before .before .before .before .before .before .before .before .before .before .before .before .before .before .before .before .before .before .before .before .before .before .before .before .loop .released) (c .before .before .before .before .before .before .before .before .before .before .before .before .before .before .before .before .before .before .before .before .before .before .before .before .loop .confirmed) (c .before .before .before .before .before .before .before .before .before .before .before .before .before .before .before .before .before .before .before .before .before .before .before .before .loop .dependencies) next) _ _ (c .before .before .before .before .before .before .before .before .before .before .before .before .before .before .before .before .before .before .before .before .before .before .lowest-of .ensures) _ _ _ _ _ _ _ _ _ (c .before .before .before .before .before .before .before .before .before .before .before .before .before .before .before .before .before .before .without-member .ensures) (c .before .before .before .before .before .before .before .before .before .before .before .before .before .before .before .before .place .ensures) (c .before .before .before .before .before .before .before .before .before .before .before .before .before .before .moved-up .ensures) (c .before .before .before .before .before .before .before .before .before .before .before .before .strike .ensures) (c .before .before .before .before .before .before .before .before .before .before .strike2 .ensures) (c .before .before .before .before .before .before .before .before .strike3 .ensures) (c .before .before .before .before .before .before .strike4 .ensures) (c .before .before .before .before .strike-rows .ensures) (c .before .before .unlead .ensures)) (rw (c .before .before .before .before .before .before .before .before .before .before .before .before .before .before .before .before .before .before .before .before .before .before .lowest-of .ensures)) (c .may-close-now .ensures)
 
 -- src/cascade.rt:53:37
 cast-t39 : tie.Need-cast-t39 Inv-loop μ-loop
@@ -130,7 +130,7 @@ close-from-spec =
     Inv-loop
     μ-loop
     loop-holds
-    first-of-requires
+    lowest-of-requires
     cast-at
     mul-closed
     element-copy-out-closed

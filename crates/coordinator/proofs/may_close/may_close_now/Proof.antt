@@ -19,20 +19,20 @@ abbrev μ-loop : tie.MeasureT-loop
 loop-holds : tie.Need-loop-holds Inv-loop μ-loop
 loop-holds c = left-start _ _ _ _
 
-first-of-requires : tie.Need-first-of-requires Inv-loop μ-loop
-first-of-requires c κs = search needs
+lowest-of-requires : tie.Need-lowest-of-requires Inv-loop μ-loop
+lowest-of-requires c κs = search needs
 
 free-requires : tie.Need-free-requires Inv-loop μ-loop
-free-requires c κs = left-lowest _ jobs _ _ _ _ _ (c .before .before .before .fits .held .fits) (c .before .loop-test .taken) (c .before .before .loop .inv) (c .first-of .ensures) .within
+free-requires c κs = left-lowest _ jobs _ _ _ _ _ (c .before .before .before .fits .held .fits) (c .before .loop-test .taken) (c .before .before .loop .inv) (c .lowest-of .ensures) .within
 
 rest-requires : tie.Need-rest-requires Inv-loop μ-loop
 rest-requires c κs = search needs
 
 loop-less : tie.Need-loop-less Inv-loop μ-loop
-loop-less c = left-falls _ jobs _ _ _ _ _ (c .before .before .before .before .before .fits .held .fits) (c .before .before .before .loop-test .taken) (c .before .before .before .before .loop .inv) (c .before .before .first-of .ensures) _ (c .rest .ensures)
+loop-less c = left-falls _ jobs _ _ _ _ _ (c .before .before .before .before .before .fits .held .fits) (c .before .before .before .loop-test .taken) (c .before .before .before .before .loop .inv) (c .before .before .lowest-of .ensures) _ (c .rest .ensures)
 
 loop-again : tie.Need-loop-again Inv-loop μ-loop
-loop-again c = left-rest _ jobs _ _ _ _ _ (c .before .before .before .before .before .fits .held .fits) (c .before .before .before .loop-test .taken) (c .before .before .before .before .loop .inv) (c .before .before .first-of .ensures) _ _ (c .rest .ensures) (rw (c .before .free .ensures))
+loop-again c = left-rest _ jobs _ _ _ _ _ (c .before .before .before .before .before .fits .held .fits) (c .before .before .before .loop-test .taken) (c .before .before .before .before .loop .inv) (c .before .before .lowest-of .ensures) _ _ (c .rest .ensures) (rw (c .before .free .ensures))
 
 returns : tie.Need-returns Inv-loop μ-loop
 unfolding mayCloseNowIn
@@ -45,7 +45,7 @@ may-close-now-spec =
     Inv-loop
     μ-loop
     loop-holds
-    first-of-requires
+    lowest-of-requires
     free-requires
     rest-requires
     loop-less

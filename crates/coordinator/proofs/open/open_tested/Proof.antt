@@ -4,18 +4,21 @@ use Rattle.coordinator.specs.State.{stateOf}
 use Rattle.coordinator.proofs.Tables.{open-slots-are}
 use Rattle.coordinator.proofs.Opening.{room-left, slot-fits, open-refused, open-accepted, opened-at}
 use borrow.Author.Needs.{needs}
+use borrow.Author.Needs.{needs}
 use Rattle.coordinator.proofs.open.open_tested.Statement.{statement}
 use Rattle.coordinator.proofs.open.open_tested.Tie as tie
 use Rattle.coordinator.proofs.open.open_tested.Reads as reads
 use Rattle.coordinator.proofs.open.open_tested.Lts as lts
-use Rattle.coordinator.proofs.enter.add_found.Reads as add-found-reads
-use Rattle.coordinator.proofs.enter.free_slot.Reads as free-slot-reads
+use Rattle.coordinator.proofs.count.count_all.Reads as count-all-reads
+use Rattle.coordinator.proofs.enter.lead_found.Reads as lead-found-reads
 use Rattle.coordinator.proofs.enter.lead_released.Reads as lead-released-reads
 use Rattle.coordinator.proofs.enter.name_databases.Reads as name-databases-reads
-use Rattle.refusals.proofs.of_open.Reads as of-open-reads
+use Rattle.coordinator.proofs.slots.lowest_of.Reads as lowest-of-reads
 use Rattle.coordinator.proofs.tickets.hand_out.Reads as hand-out-reads
-use Rattle.tables.proofs.slots.open_slots.Reads as open-slots-reads
 use Rattle.mask.proofs.slots.size.Reads as size-reads
+use Rattle.refusals.proofs.of_open.Reads as of-open-reads
+use Rattle.search.proofs.search.Reads as search-reads
+use Rattle.tables.proofs.slots.open_slots.Reads as open-slots-reads
 
 -- src/open.rt:33:9
 open-slots-requires : tie.Need-open-slots-requires
@@ -30,8 +33,8 @@ returns : tie.Need-returns
 returns c = λ sized held asked confirmed. open-refused _ _ _ _ (c .before .of-open .ensures) (stateOf (c .before .before .before .before .args .tickets .now) held (c .before .before .before .before .args .order .now) (c .before .before .before .before .args .named .now) asked (c .before .before .before .before .args .released .now) confirmed (c .before .before .before .before .args .dependencies .now) (c .before .before .before .before .args .next .now)) (open-slots-are (stateOf (c .before .before .before .before .args .tickets .now) held (c .before .before .before .before .args .order .now) (c .before .before .before .before .args .named .now) asked (c .before .before .before .before .args .released .now) confirmed (c .before .before .before .before .args .dependencies .now) (c .before .before .before .before .args .next .now)) _ (c .before .before .open-slots .ensures)) (c .if1 .taken)
 
 -- src/open.rt:38:9
-free-slot-requires : tie.Need-free-slot-requires
-free-slot-requires c κs = search needs
+lowest-of-requires : tie.Need-lowest-of-requires
+lowest-of-requires c κs = search needs
 
 -- src/open.rt:39:16
 size-requires : tie.Need-size-requires
@@ -55,7 +58,7 @@ mul-tickets c = search needs
 
 -- src/open.rt:45:5
 element-write-tickets : tie.Need-element-write-tickets
-element-write-tickets c = slot-fits _ _ _ _ (c .before .before .before .before .before .before .before .before .before .of-open .ensures) (c .before .before .before .before .before .before .before .before .if1 .left) (c .before .before .before .before .before .before .before .before .before .before .open-slots .ok) _ (c .before .before .before .before .before .before .before .free-slot .ensures)
+element-write-tickets c = slot-fits _ _ _ _ (c .before .before .before .before .before .before .before .before .before .of-open .ensures) (c .before .before .before .before .before .before .before .before .if1 .left) (c .before .before .before .before .before .before .before .before .before .before .open-slots .ok) _ (c .before .before .before .before .before .before .before .lowest-of .ensures)
 
 -- src/open.rt:46:5
 element-write-order : tie.Need-element-write-order
@@ -63,19 +66,27 @@ element-write-order c = omega (arith, c .before .before .before .before .before 
 
 -- src/open.rt:47:5
 name-databases-requires : tie.Need-name-databases-requires
-name-databases-requires c κs = slot-fits _ _ _ _ (c .before .before .before .before .before .before .before .before .before .before .of-open .ensures) (c .before .before .before .before .before .before .before .before .before .if1 .left) (c .before .before .before .before .before .before .before .before .before .before .before .open-slots .ok) _ (c .before .before .before .before .before .before .before .before .free-slot .ensures)
+name-databases-requires c κs = slot-fits _ _ _ _ (c .before .before .before .before .before .before .before .before .before .before .of-open .ensures) (c .before .before .before .before .before .before .before .before .before .if1 .left) (c .before .before .before .before .before .before .before .before .before .before .before .open-slots .ok) _ (c .before .before .before .before .before .before .before .before .lowest-of .ensures)
 
 -- src/open.rt:48:5
 lead-released-requires : tie.Need-lead-released-requires
-lead-released-requires c κs = slot-fits _ _ _ _ (c .before .before .before .before .before .before .before .before .before .before .before .before .of-open .ensures) (c .before .before .before .before .before .before .before .before .before .before .before .if1 .left) (c .before .before .before .before .before .before .before .before .before .before .before .before .before .open-slots .ok) _ (c .before .before .before .before .before .before .before .before .before .before .free-slot .ensures)
+lead-released-requires c κs = slot-fits _ _ _ _ (c .before .before .before .before .before .before .before .before .before .before .before .before .of-open .ensures) (c .before .before .before .before .before .before .before .before .before .before .before .if1 .left) (c .before .before .before .before .before .before .before .before .before .before .before .before .before .open-slots .ok) _ (c .before .before .before .before .before .before .before .before .before .before .lowest-of .ensures)
 
 -- src/open.rt:49:9
-add-found-requires : tie.Need-add-found-requires
-add-found-requires c κs = slot-fits _ _ _ _ (c .before .before .before .before .before .before .before .before .before .before .before .before .before .before .before .of-open .ensures) (c .before .before .before .before .before .before .before .before .before .before .before .before .before .before .if1 .left) (c .before .before .before .before .before .before .before .before .before .before .before .before .before .before .before .before .open-slots .ok) _ (c .before .before .before .before .before .before .before .before .before .before .before .before .before .free-slot .ensures)
+search-requires : tie.Need-search-requires
+search-requires c κs = search needs
+
+-- src/open.rt:51:5
+lead-found-requires : tie.Need-lead-found-requires
+lead-found-requires c κs = slot-fits _ _ _ _ (c .before .before .before .before .before .before .before .before .before .before .before .before .before .before .before .before .before .before .before .of-open .ensures) (c .before .before .before .before .before .before .before .before .before .before .before .before .before .before .before .before .before .before .if1 .left) (c .before .before .before .before .before .before .before .before .before .before .before .before .before .before .before .before .before .before .before .before .open-slots .ok) _ (c .before .before .before .before .before .before .before .before .before .before .before .before .before .before .before .before .before .lowest-of .ensures)
+
+-- src/open.rt:52:9
+count-all-requires : tie.Need-count-all-requires
+count-all-requires c κs = search needs
 
 -- src/open.rt:21:1
 returns-2 : tie.Need-returns-2
-returns-2 c = λ sized held asked confirmed. let o = open-slots-are (stateOf (c .before .before .before .before .before .before .before .before .before .before .before .before .before .before .before .before .before .before .before .args .tickets .now) held (c .before .before .before .before .before .before .before .before .before .before .before .before .before .before .before .before .before .before .before .args .order .now) (c .before .before .before .before .before .before .before .before .before .before .before .before .before .before .before .before .before .before .before .args .named .now) asked (c .before .before .before .before .before .before .before .before .before .before .before .before .before .before .before .before .before .before .before .args .released .now) confirmed (c .before .before .before .before .before .before .before .before .before .before .before .before .before .before .before .before .before .before .before .args .dependencies .now) (c .before .before .before .before .before .before .before .before .before .before .before .before .before .before .before .before .before .before .before .args .next .now)) _ (c .before .before .before .before .before .before .before .before .before .before .before .before .before .before .before .before .before .open-slots .ensures) in opened-at (stateOf (c .before .before .before .before .before .before .before .before .before .before .before .before .before .before .before .before .before .before .before .args .tickets .now) held (c .before .before .before .before .before .before .before .before .before .before .before .before .before .before .before .before .before .before .before .args .order .now) (c .before .before .before .before .before .before .before .before .before .before .before .before .before .before .before .before .before .before .before .args .named .now) asked (c .before .before .before .before .before .before .before .before .before .before .before .before .before .before .before .before .before .before .before .args .released .now) confirmed (c .before .before .before .before .before .before .before .before .before .before .before .before .before .before .before .before .before .before .before .args .dependencies .now) (c .before .before .before .before .before .before .before .before .before .before .before .before .before .before .before .before .before .before .before .args .next .now)) (c .before .before .before .before .before .before .before .before .before .before .before .before .before .before .before .before .before .before .before .args .mask) _ _ _ _ _ _ _ _ _ _ sized o (slot-fits _ _ _ _ (c .before .before .before .before .before .before .before .before .before .before .before .before .before .before .before .before .of-open .ensures) (c .before .before .before .before .before .before .before .before .before .before .before .before .before .before .before .if1 .left) (c .before .before .before .before .before .before .before .before .before .before .before .before .before .before .before .before .before .open-slots .ok) _ (c .before .before .before .before .before .before .before .before .before .before .before .before .before .before .free-slot .ensures)) (c .before .before .before .before .before .before .before .before .before .before .before .before .before .size .ensures) (c .before .before .before .before .before .before .before .before .before .hand-out .ensures .0) (c .before .before .before .before .before .before .before .before .before .hand-out .ensures .1) (c .before .before .before .before .before .name-databases .ensures) (c .before .before .before .lead-released .ensures) (c .add-found .ensures .0) (c .add-found .ensures .1) (c .add-found .ensures .2) ∙ open-accepted _ _ _ _ (c .before .before .before .before .before .before .before .before .before .before .before .before .before .before .before .before .of-open .ensures) (stateOf (c .before .before .before .before .before .before .before .before .before .before .before .before .before .before .before .before .before .before .before .args .tickets .now) held (c .before .before .before .before .before .before .before .before .before .before .before .before .before .before .before .before .before .before .before .args .order .now) (c .before .before .before .before .before .before .before .before .before .before .before .before .before .before .before .before .before .before .before .args .named .now) asked (c .before .before .before .before .before .before .before .before .before .before .before .before .before .before .before .before .before .before .before .args .released .now) confirmed (c .before .before .before .before .before .before .before .before .before .before .before .before .before .before .before .before .before .before .before .args .dependencies .now) (c .before .before .before .before .before .before .before .before .before .before .before .before .before .before .before .before .before .before .before .args .next .now)) o (c .before .before .before .before .before .before .before .before .before .before .before .before .before .before .before .if1 .left) _ (c .before .before .before .before .before .before .before .before .before .before .before .before .before .before .free-slot .ensures)
+returns-2 c = λ sized held asked confirmed. let o = open-slots-are (stateOf (c .before .before .before .before .before .before .before .before .before .before .before .before .before .before .before .before .before .before .before .before .before .before .before .before .before .args .tickets .now) held (c .before .before .before .before .before .before .before .before .before .before .before .before .before .before .before .before .before .before .before .before .before .before .before .before .before .args .order .now) (c .before .before .before .before .before .before .before .before .before .before .before .before .before .before .before .before .before .before .before .before .before .before .before .before .before .args .named .now) asked (c .before .before .before .before .before .before .before .before .before .before .before .before .before .before .before .before .before .before .before .before .before .before .before .before .before .args .released .now) confirmed (c .before .before .before .before .before .before .before .before .before .before .before .before .before .before .before .before .before .before .before .before .before .before .before .before .before .args .dependencies .now) (c .before .before .before .before .before .before .before .before .before .before .before .before .before .before .before .before .before .before .before .before .before .before .before .before .before .args .next .now)) _ (c .before .before .before .before .before .before .before .before .before .before .before .before .before .before .before .before .before .before .before .before .before .before .before .open-slots .ensures) in opened-at (stateOf (c .before .before .before .before .before .before .before .before .before .before .before .before .before .before .before .before .before .before .before .before .before .before .before .before .before .args .tickets .now) held (c .before .before .before .before .before .before .before .before .before .before .before .before .before .before .before .before .before .before .before .before .before .before .before .before .before .args .order .now) (c .before .before .before .before .before .before .before .before .before .before .before .before .before .before .before .before .before .before .before .before .before .before .before .before .before .args .named .now) asked (c .before .before .before .before .before .before .before .before .before .before .before .before .before .before .before .before .before .before .before .before .before .before .before .before .before .args .released .now) confirmed (c .before .before .before .before .before .before .before .before .before .before .before .before .before .before .before .before .before .before .before .before .before .before .before .before .before .args .dependencies .now) (c .before .before .before .before .before .before .before .before .before .before .before .before .before .before .before .before .before .before .before .before .before .before .before .before .before .args .next .now)) (c .before .before .before .before .before .before .before .before .before .before .before .before .before .before .before .before .before .before .before .before .before .before .before .before .before .args .mask) _ _ _ _ _ _ _ _ _ _ sized o (slot-fits _ _ _ _ (c .before .before .before .before .before .before .before .before .before .before .before .before .before .before .before .before .before .before .before .before .before .before .of-open .ensures) (c .before .before .before .before .before .before .before .before .before .before .before .before .before .before .before .before .before .before .before .before .before .if1 .left) (c .before .before .before .before .before .before .before .before .before .before .before .before .before .before .before .before .before .before .before .before .before .before .before .open-slots .ok) _ (c .before .before .before .before .before .before .before .before .before .before .before .before .before .before .before .before .before .before .before .before .lowest-of .ensures)) (c .before .before .before .before .before .before .before .before .before .before .before .before .before .before .before .before .before .before .before .size .ensures) (c .before .before .before .before .before .before .before .before .before .before .before .before .before .before .before .hand-out .ensures .0) (c .before .before .before .before .before .before .before .before .before .before .before .before .before .before .before .hand-out .ensures .1) (c .before .before .before .before .before .before .before .before .before .before .before .name-databases .ensures) (c .before .before .before .before .before .before .before .before .before .lead-released .ensures) (c .before .before .before .before .before .before .search .ensures) (c .before .before .lead-found .ensures) (c .count-all .ensures) ∙ open-accepted _ _ _ _ (c .before .before .before .before .before .before .before .before .before .before .before .before .before .before .before .before .before .before .before .before .before .before .of-open .ensures) (stateOf (c .before .before .before .before .before .before .before .before .before .before .before .before .before .before .before .before .before .before .before .before .before .before .before .before .before .args .tickets .now) held (c .before .before .before .before .before .before .before .before .before .before .before .before .before .before .before .before .before .before .before .before .before .before .before .before .before .args .order .now) (c .before .before .before .before .before .before .before .before .before .before .before .before .before .before .before .before .before .before .before .before .before .before .before .before .before .args .named .now) asked (c .before .before .before .before .before .before .before .before .before .before .before .before .before .before .before .before .before .before .before .before .before .before .before .before .before .args .released .now) confirmed (c .before .before .before .before .before .before .before .before .before .before .before .before .before .before .before .before .before .before .before .before .before .before .before .before .before .args .dependencies .now) (c .before .before .before .before .before .before .before .before .before .before .before .before .before .before .before .before .before .before .before .before .before .before .before .before .before .args .next .now)) o (c .before .before .before .before .before .before .before .before .before .before .before .before .before .before .before .before .before .before .before .before .before .if1 .left) _ (c .before .before .before .before .before .before .before .before .before .before .before .before .before .before .before .before .before .before .before .before .lowest-of .ensures)
 
 pub open-tested-spec : {M : Type 1} → statement M
 open-tested-spec =
@@ -84,7 +95,7 @@ open-tested-spec =
     open-slots-requires
     of-open-requires
     returns
-    free-slot-requires
+    lowest-of-requires
     size-requires
     cast-open
     hand-out-requires
@@ -94,5 +105,7 @@ open-tested-spec =
     element-write-order
     name-databases-requires
     lead-released-requires
-    add-found-requires
+    search-requires
+    lead-found-requires
+    count-all-requires
     returns-2)
