@@ -69,7 +69,7 @@ mul-may-go c = search needs
 
 -- src/ask.rt:42:25
 element-copy-out-may-go : tie.Need-element-copy-out-may-go
-element-copy-out-may-go c = let f = (ask-accepted _ (stateOf (c .before .before .before .before .before .before .before .before .before .before .before .args .tickets .now) 0 [] (c .before .before .before .before .before .before .before .before .before .before .before .args .named .now) (c .before .before .before .before .before .before .before .before .before .before .before .args .asked .now) (c .before .before .before .before .before .before .before .before .before .before .before .args .released .now) (c .before .before .before .before .before .before .before .before .before .before .before .args .confirmed .now) (c .before .before .before .before .before .before .before .before .before .before .before .args .dependencies .now) 0) (c .before .before .before .before .before .before .before .before .before .before .before .args .ticket .0) (c .before .before .before .before .before .before .before .before .before .before .before .args .database .0) _ _ _ _ _ (c .before .before .before .before .before .before .before .before .before .before .holders-of .ensures) (c .before .before .before .before .before .before .before .before .before .lowest-of .ensures) (c .before .before .before .before .before .before .before .before .holds-at .ensures) (c .before .before .before .before .before .before .holds-at2 .ensures) (c .before .before .before .before .before .of-step .ensures) (c .before .before .before .before .if1 .left)) .fits in omega (arith, f .0, f .1)
+element-copy-out-may-go c = let f = (mark-requires (c .before .before) (c .before .mark .lifetimes)) in omega (arith, f .0, f .1)
 
 -- src/ask.rt:42:45
 mul-may-go-2 : tie.Need-mul-may-go-2
@@ -77,7 +77,7 @@ mul-may-go-2 c = search needs
 
 -- src/ask.rt:42:45
 element-copy-out-may-go-2 : tie.Need-element-copy-out-may-go-2
-element-copy-out-may-go-2 c = (ask-accepted _ (stateOf (c .before .before .before .before .before .before .before .before .before .before .before .before .args .tickets .now) 0 [] (c .before .before .before .before .before .before .before .before .before .before .before .before .args .named .now) (c .before .before .before .before .before .before .before .before .before .before .before .before .args .asked .now) (c .before .before .before .before .before .before .before .before .before .before .before .before .args .released .now) (c .before .before .before .before .before .before .before .before .before .before .before .before .args .confirmed .now) (c .before .before .before .before .before .before .before .before .before .before .before .before .args .dependencies .now) 0) (c .before .before .before .before .before .before .before .before .before .before .before .before .args .ticket .0) (c .before .before .before .before .before .before .before .before .before .before .before .before .args .database .0) _ _ _ _ _ (c .before .before .before .before .before .before .before .before .before .before .before .holders-of .ensures) (c .before .before .before .before .before .before .before .before .before .before .lowest-of .ensures) (c .before .before .before .before .before .before .before .before .before .holds-at .ensures) (c .before .before .before .before .before .before .before .holds-at2 .ensures) (c .before .before .before .before .before .before .of-step .ensures) (c .before .before .before .before .before .if1 .left)) .fits .0
+element-copy-out-may-go-2 c = (mark-requires (c .before .before .before) (c .before .before .mark .lifetimes)) .0
 
 -- src/ask.rt:42:9
 may-go-requires : tie.Need-may-go-requires
@@ -89,7 +89,7 @@ returns-2 c = λ held next order. let a = (ask-accepted _ (stateOf (c .before .b
 
 -- src/ask.rt:45:5
 mark-requires-2 : tie.Need-mark-requires-2
-mark-requires-2 c κs = (ask-accepted _ (stateOf (c .before .before .before .before .before .before .before .before .before .before .before .before .before .before .before .before .args .tickets .now) 0 [] (c .before .before .before .before .before .before .before .before .before .before .before .before .before .before .before .before .args .named .now) (c .before .before .before .before .before .before .before .before .before .before .before .before .before .before .before .before .args .asked .now) (c .before .before .before .before .before .before .before .before .before .before .before .before .before .before .before .before .args .released .now) (c .before .before .before .before .before .before .before .before .before .before .before .before .before .before .before .before .args .confirmed .now) (c .before .before .before .before .before .before .before .before .before .before .before .before .before .before .before .before .args .dependencies .now) 0) (c .before .before .before .before .before .before .before .before .before .before .before .before .before .before .before .before .args .ticket .0) (c .before .before .before .before .before .before .before .before .before .before .before .before .before .before .before .before .args .database .0) _ _ _ _ _ (c .before .before .before .before .before .before .before .before .before .before .before .before .before .before .before .holders-of .ensures) (c .before .before .before .before .before .before .before .before .before .before .before .before .before .before .lowest-of .ensures) (c .before .before .before .before .before .before .before .before .before .before .before .before .before .holds-at .ensures) (c .before .before .before .before .before .before .before .before .before .before .before .holds-at2 .ensures) (c .before .before .before .before .before .before .before .before .before .before .of-step .ensures) (c .before .before .before .before .before .before .before .before .before .if1 .left)) .fits
+mark-requires-2 c κs = (mark-requires (c .before .before .before .before .before .before .before) (c .before .before .before .before .before .before .mark .lifetimes))
 
 -- src/ask.rt:46:35
 mul-less : tie.Need-mul-less
@@ -97,7 +97,7 @@ mul-less c = search needs
 
 -- src/ask.rt:46:35
 element-copy-out-less : tie.Need-element-copy-out-less
-element-copy-out-less c = (ask-accepted _ (stateOf (c .before .before .before .before .before .before .before .before .before .before .before .before .before .before .before .before .before .args .tickets .now) 0 [] (c .before .before .before .before .before .before .before .before .before .before .before .before .before .before .before .before .before .args .named .now) (c .before .before .before .before .before .before .before .before .before .before .before .before .before .before .before .before .before .args .asked .now) (c .before .before .before .before .before .before .before .before .before .before .before .before .before .before .before .before .before .args .released .now) (c .before .before .before .before .before .before .before .before .before .before .before .before .before .before .before .before .before .args .confirmed .now) (c .before .before .before .before .before .before .before .before .before .before .before .before .before .before .before .before .before .args .dependencies .now) 0) (c .before .before .before .before .before .before .before .before .before .before .before .before .before .before .before .before .before .args .ticket .0) (c .before .before .before .before .before .before .before .before .before .before .before .before .before .before .before .before .before .args .database .0) _ _ _ _ _ (c .before .before .before .before .before .before .before .before .before .before .before .before .before .before .before .before .holders-of .ensures) (c .before .before .before .before .before .before .before .before .before .before .before .before .before .before .before .lowest-of .ensures) (c .before .before .before .before .before .before .before .before .before .before .before .before .before .before .holds-at .ensures) (c .before .before .before .before .before .before .before .before .before .before .before .before .holds-at2 .ensures) (c .before .before .before .before .before .before .before .before .before .before .before .of-step .ensures) (c .before .before .before .before .before .before .before .before .before .before .if1 .left)) .fits .0
+element-copy-out-less c = (mark-requires (c .before .before .before .before .before .before .before .before) (c .before .before .before .before .before .before .before .mark .lifetimes)) .0
 
 -- src/ask.rt:46:45
 mul-less-2 : tie.Need-mul-less-2
@@ -105,7 +105,7 @@ mul-less-2 c = search needs
 
 -- src/ask.rt:46:45
 element-copy-out-less-2 : tie.Need-element-copy-out-less-2
-element-copy-out-less-2 c = (ask-accepted _ (stateOf (c .before .before .before .before .before .before .before .before .before .before .before .before .before .before .before .before .before .before .args .tickets .now) 0 [] (c .before .before .before .before .before .before .before .before .before .before .before .before .before .before .before .before .before .before .args .named .now) (c .before .before .before .before .before .before .before .before .before .before .before .before .before .before .before .before .before .before .args .asked .now) (c .before .before .before .before .before .before .before .before .before .before .before .before .before .before .before .before .before .before .args .released .now) (c .before .before .before .before .before .before .before .before .before .before .before .before .before .before .before .before .before .before .args .confirmed .now) (c .before .before .before .before .before .before .before .before .before .before .before .before .before .before .before .before .before .before .args .dependencies .now) 0) (c .before .before .before .before .before .before .before .before .before .before .before .before .before .before .before .before .before .before .args .ticket .0) (c .before .before .before .before .before .before .before .before .before .before .before .before .before .before .before .before .before .before .args .database .0) _ _ _ _ _ (c .before .before .before .before .before .before .before .before .before .before .before .before .before .before .before .before .before .holders-of .ensures) (c .before .before .before .before .before .before .before .before .before .before .before .before .before .before .before .before .lowest-of .ensures) (c .before .before .before .before .before .before .before .before .before .before .before .before .before .before .before .holds-at .ensures) (c .before .before .before .before .before .before .before .before .before .before .before .before .before .holds-at2 .ensures) (c .before .before .before .before .before .before .before .before .before .before .before .before .of-step .ensures) (c .before .before .before .before .before .before .before .before .before .before .before .if1 .left)) .fits .0
+element-copy-out-less-2 c = (mark-requires (c .before .before .before .before .before .before .before .before .before) (c .before .before .before .before .before .before .before .before .mark .lifetimes)) .0
 
 -- src/ask.rt:46:9
 less-requires : tie.Need-less-requires
@@ -113,7 +113,7 @@ less-requires c κs = search needs
 
 -- src/ask.rt:47:5
 lead-to-requires : tie.Need-lead-to-requires
-lead-to-requires c κs = (ask-accepted _ (stateOf (c .before .before .before .before .before .before .before .before .before .before .before .before .before .before .before .before .before .before .before .before .before .args .tickets .now) 0 [] (c .before .before .before .before .before .before .before .before .before .before .before .before .before .before .before .before .before .before .before .before .before .args .named .now) (c .before .before .before .before .before .before .before .before .before .before .before .before .before .before .before .before .before .before .before .before .before .args .asked .now) (c .before .before .before .before .before .before .before .before .before .before .before .before .before .before .before .before .before .before .before .before .before .args .released .now) (c .before .before .before .before .before .before .before .before .before .before .before .before .before .before .before .before .before .before .before .before .before .args .confirmed .now) (c .before .before .before .before .before .before .before .before .before .before .before .before .before .before .before .before .before .before .before .before .before .args .dependencies .now) 0) (c .before .before .before .before .before .before .before .before .before .before .before .before .before .before .before .before .before .before .before .before .before .args .ticket .0) (c .before .before .before .before .before .before .before .before .before .before .before .before .before .before .before .before .before .before .before .before .before .args .database .0) _ _ _ _ _ (c .before .before .before .before .before .before .before .before .before .before .before .before .before .before .before .before .before .before .before .before .holders-of .ensures) (c .before .before .before .before .before .before .before .before .before .before .before .before .before .before .before .before .before .before .before .lowest-of .ensures) (c .before .before .before .before .before .before .before .before .before .before .before .before .before .before .before .before .before .before .holds-at .ensures) (c .before .before .before .before .before .before .before .before .before .before .before .before .before .before .before .before .holds-at2 .ensures) (c .before .before .before .before .before .before .before .before .before .before .before .before .before .before .before .of-step .ensures) (c .before .before .before .before .before .before .before .before .before .before .before .before .before .before .if1 .left)) .fits
+lead-to-requires c κs = (mark-requires (c .before .before .before .before .before .before .before .before .before .before .before .before) (c .before .before .before .before .before .before .before .before .before .before .before .mark .lifetimes))
 
 -- src/ask.rt:18:1
 returns-3 : tie.Need-returns-3

@@ -67,7 +67,7 @@ mul-going-of c = search needs
 
 -- src/confirm.rt:56:51
 element-copy-out-going-of : tie.Need-element-copy-out-going-of
-element-copy-out-going-of c = (confirm-accepted _ (stateOf (c .before .before .before .before .before .before .before .before .before .before .before .before .before .before .args .tickets .now) 0 [] (c .before .before .before .before .before .before .before .before .before .before .before .before .before .before .args .named .now) (c .before .before .before .before .before .before .before .before .before .before .before .before .before .before .args .asked .now) (c .before .before .before .before .before .before .before .before .before .before .before .before .before .before .args .released .now) (c .before .before .before .before .before .before .before .before .before .before .before .before .before .before .args .confirmed .now) (c .before .before .before .before .before .before .before .before .before .before .before .before .before .before .args .dependencies .now) 0) (c .before .before .before .before .before .before .before .before .before .before .before .before .before .before .args .ticket .0) (c .before .before .before .before .before .before .before .before .before .before .before .before .before .before .args .database .0) _ _ _ _ _ (c .before .before .before .before .before .before .before .before .before .before .before .before .before .holders-of .ensures) (c .before .before .before .before .before .before .before .before .before .before .before .before .lowest-of .ensures) (c .before .before .before .before .before .before .before .before .before .before .before .holds-at .ensures) (c .before .before .before .before .before .before .is-settled .ensures ∙ rw (c .before .before .before .before .before .before .before .before .before .at .ensures, c .before .before .before .before .before .before .before .at2 .ensures)) (c .before .before .before .before .before .of-step .ensures) (c .before .before .before .before .if1 .left)) .fits .0
+element-copy-out-going-of c = (mark-requires (c .before .before) (c .before .mark .lifetimes)) .0
 
 -- src/confirm.rt:56:61
 mul-going-of-2 : tie.Need-mul-going-of-2
@@ -75,7 +75,7 @@ mul-going-of-2 c = search needs
 
 -- src/confirm.rt:56:61
 element-copy-out-going-of-2 : tie.Need-element-copy-out-going-of-2
-element-copy-out-going-of-2 c = (confirm-accepted _ (stateOf (c .before .before .before .before .before .before .before .before .before .before .before .before .before .before .before .args .tickets .now) 0 [] (c .before .before .before .before .before .before .before .before .before .before .before .before .before .before .before .args .named .now) (c .before .before .before .before .before .before .before .before .before .before .before .before .before .before .before .args .asked .now) (c .before .before .before .before .before .before .before .before .before .before .before .before .before .before .before .args .released .now) (c .before .before .before .before .before .before .before .before .before .before .before .before .before .before .before .args .confirmed .now) (c .before .before .before .before .before .before .before .before .before .before .before .before .before .before .before .args .dependencies .now) 0) (c .before .before .before .before .before .before .before .before .before .before .before .before .before .before .before .args .ticket .0) (c .before .before .before .before .before .before .before .before .before .before .before .before .before .before .before .args .database .0) _ _ _ _ _ (c .before .before .before .before .before .before .before .before .before .before .before .before .before .before .holders-of .ensures) (c .before .before .before .before .before .before .before .before .before .before .before .before .before .lowest-of .ensures) (c .before .before .before .before .before .before .before .before .before .before .before .before .holds-at .ensures) (c .before .before .before .before .before .before .before .is-settled .ensures ∙ rw (c .before .before .before .before .before .before .before .before .before .before .at .ensures, c .before .before .before .before .before .before .before .before .at2 .ensures)) (c .before .before .before .before .before .before .of-step .ensures) (c .before .before .before .before .before .if1 .left)) .fits .0
+element-copy-out-going-of-2 c = (mark-requires (c .before .before .before) (c .before .before .mark .lifetimes)) .0
 
 -- src/confirm.rt:56:74
 mul-going-of-3 : tie.Need-mul-going-of-3
@@ -83,11 +83,11 @@ mul-going-of-3 c = search needs
 
 -- src/confirm.rt:56:74
 element-copy-out-going-of-3 : tie.Need-element-copy-out-going-of-3
-element-copy-out-going-of-3 c = (confirm-accepted _ (stateOf (c .before .before .before .before .before .before .before .before .before .before .before .before .before .before .before .before .args .tickets .now) 0 [] (c .before .before .before .before .before .before .before .before .before .before .before .before .before .before .before .before .args .named .now) (c .before .before .before .before .before .before .before .before .before .before .before .before .before .before .before .before .args .asked .now) (c .before .before .before .before .before .before .before .before .before .before .before .before .before .before .before .before .args .released .now) (c .before .before .before .before .before .before .before .before .before .before .before .before .before .before .before .before .args .confirmed .now) (c .before .before .before .before .before .before .before .before .before .before .before .before .before .before .before .before .args .dependencies .now) 0) (c .before .before .before .before .before .before .before .before .before .before .before .before .before .before .before .before .args .ticket .0) (c .before .before .before .before .before .before .before .before .before .before .before .before .before .before .before .before .args .database .0) _ _ _ _ _ (c .before .before .before .before .before .before .before .before .before .before .before .before .before .before .before .holders-of .ensures) (c .before .before .before .before .before .before .before .before .before .before .before .before .before .before .lowest-of .ensures) (c .before .before .before .before .before .before .before .before .before .before .before .before .before .holds-at .ensures) (c .before .before .before .before .before .before .before .before .is-settled .ensures ∙ rw (c .before .before .before .before .before .before .before .before .before .before .before .at .ensures, c .before .before .before .before .before .before .before .before .before .at2 .ensures)) (c .before .before .before .before .before .before .before .of-step .ensures) (c .before .before .before .before .before .before .if1 .left)) .fits .0
+element-copy-out-going-of-3 c = (mark-requires (c .before .before .before .before) (c .before .before .before .mark .lifetimes)) .0
 
 -- src/confirm.rt:56:9
 going-of-requires : tie.Need-going-of-requires
-going-of-requires c κs = (confirm-accepted _ (stateOf (c .before .before .before .before .before .before .before .before .before .before .before .before .before .before .before .before .before .args .tickets .now) 0 [] (c .before .before .before .before .before .before .before .before .before .before .before .before .before .before .before .before .before .args .named .now) (c .before .before .before .before .before .before .before .before .before .before .before .before .before .before .before .before .before .args .asked .now) (c .before .before .before .before .before .before .before .before .before .before .before .before .before .before .before .before .before .args .released .now) (c .before .before .before .before .before .before .before .before .before .before .before .before .before .before .before .before .before .args .confirmed .now) (c .before .before .before .before .before .before .before .before .before .before .before .before .before .before .before .before .before .args .dependencies .now) 0) (c .before .before .before .before .before .before .before .before .before .before .before .before .before .before .before .before .before .args .ticket .0) (c .before .before .before .before .before .before .before .before .before .before .before .before .before .before .before .before .before .args .database .0) _ _ _ _ _ (c .before .before .before .before .before .before .before .before .before .before .before .before .before .before .before .before .holders-of .ensures) (c .before .before .before .before .before .before .before .before .before .before .before .before .before .before .before .lowest-of .ensures) (c .before .before .before .before .before .before .before .before .before .before .before .before .before .before .holds-at .ensures) (c .before .before .before .before .before .before .before .before .before .is-settled .ensures ∙ rw (c .before .before .before .before .before .before .before .before .before .before .before .before .at .ensures, c .before .before .before .before .before .before .before .before .before .before .at2 .ensures)) (c .before .before .before .before .before .before .before .before .of-step .ensures) (c .before .before .before .before .before .before .before .if1 .left)) .fits .0
+going-of-requires c κs = (mark-requires (c .before .before .before .before .before) (c .before .before .before .before .mark .lifetimes)) .0
 
 -- src/confirm.rt:58:9
 returns-2 : tie.Need-returns-2
@@ -99,7 +99,7 @@ lowest-of-requires-2 c κs = search needs
 
 -- src/confirm.rt:61:5
 mark-requires-2 : tie.Need-mark-requires-2
-mark-requires-2 c κs = ((confirm-accepted _ (stateOf (c .before .before .before .before .before .before .before .before .before .before .before .before .before .before .before .before .before .before .before .before .before .args .tickets .now) 0 [] (c .before .before .before .before .before .before .before .before .before .before .before .before .before .before .before .before .before .before .before .before .before .args .named .now) (c .before .before .before .before .before .before .before .before .before .before .before .before .before .before .before .before .before .before .before .before .before .args .asked .now) (c .before .before .before .before .before .before .before .before .before .before .before .before .before .before .before .before .before .before .before .before .before .args .released .now) (c .before .before .before .before .before .before .before .before .before .before .before .before .before .before .before .before .before .before .before .before .before .args .confirmed .now) (c .before .before .before .before .before .before .before .before .before .before .before .before .before .before .before .before .before .before .before .before .before .args .dependencies .now) 0) (c .before .before .before .before .before .before .before .before .before .before .before .before .before .before .before .before .before .before .before .before .before .args .ticket .0) (c .before .before .before .before .before .before .before .before .before .before .before .before .before .before .before .before .before .before .before .before .before .args .database .0) _ _ _ _ _ (c .before .before .before .before .before .before .before .before .before .before .before .before .before .before .before .before .before .before .before .before .holders-of .ensures) (c .before .before .before .before .before .before .before .before .before .before .before .before .before .before .before .before .before .before .before .lowest-of .ensures) (c .before .before .before .before .before .before .before .before .before .before .before .before .before .before .before .before .before .before .holds-at .ensures) (c .before .before .before .before .before .before .before .before .before .before .before .before .before .is-settled .ensures ∙ rw (c .before .before .before .before .before .before .before .before .before .before .before .before .before .before .before .before .at .ensures, c .before .before .before .before .before .before .before .before .before .before .before .before .before .before .at2 .ensures)) (c .before .before .before .before .before .before .before .before .before .before .before .before .of-step .ensures) (c .before .before .before .before .before .before .before .before .before .before .before .if1 .left)) .fits .0, first-below _ _ _ _ _ _ _ (c .before .before .before .going-of .ensures) (c .before .before .if2 .left) (c .before .lowest-of2 .ensures))
+mark-requires-2 c κs = ((mark-requires (c .before .before .before .before .before .before .before .before .before) (c .before .before .before .before .before .before .before .before .mark .lifetimes)) .0, first-below _ _ _ _ _ _ _ (c .before .before .before .going-of .ensures) (c .before .before .if2 .left) (c .before .lowest-of2 .ensures))
 
 -- src/confirm.rt:62:35
 mul-less : tie.Need-mul-less
@@ -107,7 +107,7 @@ mul-less c = search needs
 
 -- src/confirm.rt:62:35
 element-copy-out-less : tie.Need-element-copy-out-less
-element-copy-out-less c = (confirm-accepted _ (stateOf (c .before .before .before .before .before .before .before .before .before .before .before .before .before .before .before .before .before .before .before .before .before .before .args .tickets .now) 0 [] (c .before .before .before .before .before .before .before .before .before .before .before .before .before .before .before .before .before .before .before .before .before .before .args .named .now) (c .before .before .before .before .before .before .before .before .before .before .before .before .before .before .before .before .before .before .before .before .before .before .args .asked .now) (c .before .before .before .before .before .before .before .before .before .before .before .before .before .before .before .before .before .before .before .before .before .before .args .released .now) (c .before .before .before .before .before .before .before .before .before .before .before .before .before .before .before .before .before .before .before .before .before .before .args .confirmed .now) (c .before .before .before .before .before .before .before .before .before .before .before .before .before .before .before .before .before .before .before .before .before .before .args .dependencies .now) 0) (c .before .before .before .before .before .before .before .before .before .before .before .before .before .before .before .before .before .before .before .before .before .before .args .ticket .0) (c .before .before .before .before .before .before .before .before .before .before .before .before .before .before .before .before .before .before .before .before .before .before .args .database .0) _ _ _ _ _ (c .before .before .before .before .before .before .before .before .before .before .before .before .before .before .before .before .before .before .before .before .before .holders-of .ensures) (c .before .before .before .before .before .before .before .before .before .before .before .before .before .before .before .before .before .before .before .before .lowest-of .ensures) (c .before .before .before .before .before .before .before .before .before .before .before .before .before .before .before .before .before .before .before .holds-at .ensures) (c .before .before .before .before .before .before .before .before .before .before .before .before .before .before .is-settled .ensures ∙ rw (c .before .before .before .before .before .before .before .before .before .before .before .before .before .before .before .before .before .at .ensures, c .before .before .before .before .before .before .before .before .before .before .before .before .before .before .before .at2 .ensures)) (c .before .before .before .before .before .before .before .before .before .before .before .before .before .of-step .ensures) (c .before .before .before .before .before .before .before .before .before .before .before .before .if1 .left)) .fits .0
+element-copy-out-less c = (mark-requires (c .before .before .before .before .before .before .before .before .before .before) (c .before .before .before .before .before .before .before .before .before .mark .lifetimes)) .0
 
 -- src/confirm.rt:62:45
 mul-less-2 : tie.Need-mul-less-2
@@ -115,7 +115,7 @@ mul-less-2 c = search needs
 
 -- src/confirm.rt:62:45
 element-copy-out-less-2 : tie.Need-element-copy-out-less-2
-element-copy-out-less-2 c = (confirm-accepted _ (stateOf (c .before .before .before .before .before .before .before .before .before .before .before .before .before .before .before .before .before .before .before .before .before .before .before .args .tickets .now) 0 [] (c .before .before .before .before .before .before .before .before .before .before .before .before .before .before .before .before .before .before .before .before .before .before .before .args .named .now) (c .before .before .before .before .before .before .before .before .before .before .before .before .before .before .before .before .before .before .before .before .before .before .before .args .asked .now) (c .before .before .before .before .before .before .before .before .before .before .before .before .before .before .before .before .before .before .before .before .before .before .before .args .released .now) (c .before .before .before .before .before .before .before .before .before .before .before .before .before .before .before .before .before .before .before .before .before .before .before .args .confirmed .now) (c .before .before .before .before .before .before .before .before .before .before .before .before .before .before .before .before .before .before .before .before .before .before .before .args .dependencies .now) 0) (c .before .before .before .before .before .before .before .before .before .before .before .before .before .before .before .before .before .before .before .before .before .before .before .args .ticket .0) (c .before .before .before .before .before .before .before .before .before .before .before .before .before .before .before .before .before .before .before .before .before .before .before .args .database .0) _ _ _ _ _ (c .before .before .before .before .before .before .before .before .before .before .before .before .before .before .before .before .before .before .before .before .before .before .holders-of .ensures) (c .before .before .before .before .before .before .before .before .before .before .before .before .before .before .before .before .before .before .before .before .before .lowest-of .ensures) (c .before .before .before .before .before .before .before .before .before .before .before .before .before .before .before .before .before .before .before .before .holds-at .ensures) (c .before .before .before .before .before .before .before .before .before .before .before .before .before .before .before .is-settled .ensures ∙ rw (c .before .before .before .before .before .before .before .before .before .before .before .before .before .before .before .before .before .before .at .ensures, c .before .before .before .before .before .before .before .before .before .before .before .before .before .before .before .before .at2 .ensures)) (c .before .before .before .before .before .before .before .before .before .before .before .before .before .before .of-step .ensures) (c .before .before .before .before .before .before .before .before .before .before .before .before .before .if1 .left)) .fits .0
+element-copy-out-less-2 c = (mark-requires (c .before .before .before .before .before .before .before .before .before .before .before) (c .before .before .before .before .before .before .before .before .before .before .mark .lifetimes)) .0
 
 -- src/confirm.rt:62:9
 less-requires : tie.Need-less-requires
@@ -123,7 +123,7 @@ less-requires c κs = search needs
 
 -- src/confirm.rt:63:5
 lead-to-requires : tie.Need-lead-to-requires
-lead-to-requires c κs = ((confirm-accepted _ (stateOf (c .before .before .before .before .before .before .before .before .before .before .before .before .before .before .before .before .before .before .before .before .before .before .before .before .before .before .args .tickets .now) 0 [] (c .before .before .before .before .before .before .before .before .before .before .before .before .before .before .before .before .before .before .before .before .before .before .before .before .before .before .args .named .now) (c .before .before .before .before .before .before .before .before .before .before .before .before .before .before .before .before .before .before .before .before .before .before .before .before .before .before .args .asked .now) (c .before .before .before .before .before .before .before .before .before .before .before .before .before .before .before .before .before .before .before .before .before .before .before .before .before .before .args .released .now) (c .before .before .before .before .before .before .before .before .before .before .before .before .before .before .before .before .before .before .before .before .before .before .before .before .before .before .args .confirmed .now) (c .before .before .before .before .before .before .before .before .before .before .before .before .before .before .before .before .before .before .before .before .before .before .before .before .before .before .args .dependencies .now) 0) (c .before .before .before .before .before .before .before .before .before .before .before .before .before .before .before .before .before .before .before .before .before .before .before .before .before .before .args .ticket .0) (c .before .before .before .before .before .before .before .before .before .before .before .before .before .before .before .before .before .before .before .before .before .before .before .before .before .before .args .database .0) _ _ _ _ _ (c .before .before .before .before .before .before .before .before .before .before .before .before .before .before .before .before .before .before .before .before .before .before .before .before .before .holders-of .ensures) (c .before .before .before .before .before .before .before .before .before .before .before .before .before .before .before .before .before .before .before .before .before .before .before .before .lowest-of .ensures) (c .before .before .before .before .before .before .before .before .before .before .before .before .before .before .before .before .before .before .before .before .before .before .before .holds-at .ensures) (c .before .before .before .before .before .before .before .before .before .before .before .before .before .before .before .before .before .before .is-settled .ensures ∙ rw (c .before .before .before .before .before .before .before .before .before .before .before .before .before .before .before .before .before .before .before .before .before .at .ensures, c .before .before .before .before .before .before .before .before .before .before .before .before .before .before .before .before .before .before .before .at2 .ensures)) (c .before .before .before .before .before .before .before .before .before .before .before .before .before .before .before .before .before .of-step .ensures) (c .before .before .before .before .before .before .before .before .before .before .before .before .before .before .before .before .if1 .left)) .fits .0, first-below _ _ _ _ _ _ _ (c .before .before .before .before .before .before .before .before .going-of .ensures) (c .before .before .before .before .before .before .before .if2 .left) (c .before .before .before .before .before .before .lowest-of2 .ensures))
+lead-to-requires c κs = ((mark-requires (c .before .before .before .before .before .before .before .before .before .before .before .before .before .before) (c .before .before .before .before .before .before .before .before .before .before .before .before .before .mark .lifetimes)) .0, first-below _ _ _ _ _ _ _ (c .before .before .before .before .before .before .before .before .going-of .ensures) (c .before .before .before .before .before .before .before .if2 .left) (c .before .before .before .before .before .before .lowest-of2 .ensures))
 
 -- src/confirm.rt:64:14
 cast-at : tie.Need-cast-at
