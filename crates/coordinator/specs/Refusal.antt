@@ -3,7 +3,7 @@ use Prim.Native.Nat.{ℕ}
 use mathlib.Core.Bool.{Bool, not, _||_}
 use mathlib.Core.Option.{Option}
 use Rattle.loops.specs.Loop.{every}
-pub use Rattle.refusals.specs.Refusal.{Row, numberOf}
+pub use Rattle.refusals.specs.Refusal.{Row, numberOf, slotRows, stepRows, jobRows}
 unfoldable pub use Rattle.refusals.specs.Refusal.{firstRow, slotRefusal, stepRefusal, jobRefusal}
 use Rattle.coordinator.specs.declared.Coordinator.{Coordinator}
 use Rattle.coordinator.specs.Limits.{databases}

@@ -20,7 +20,7 @@ use Rattle.coordinator.specs.Answer.{openValues, askValues, confirmValues, clos
 use Rattle.coordinator.specs.Call.{Call, openJob, askStep, confirmStep, closeJob, Played, play}
 use Rattle.soundness.proofs.Arms.{open-taken, ask-taken, ask-goes, ask-waits, confirm-taken, confirm-none, confirm-one, close-taken, close-goes, close-waits}
 use Rattle.soundness.specs.Refused.{refusalOf}
-use Rattle.soundness.proofs.Refused.{refused-play}
+use Rattle.soundness.proofs.Refused.{refused-play, refusal-first, refusal-none}
 use Rattle.soundness.proofs.Every.{damaged-refused}
 use Rattle.promises.specs.Everywhere.{Refusals}
 use Rattle.promises.proofs.Opening as opening
@@ -65,4 +65,4 @@ numbered s (confirmStep t k) n e = confirming.refusal-numbered s t k n e
 numbered s (closeJob t) n e = closing.refusal-numbered s t n e
 
 pub refusals : Refusals
-refusals = record { changes-nothing = refused-play; accepts = accepts; damaged = λ s c S x. damaged-refused s S x c; numbered = numbered }
+refusals = record { changes-nothing = refused-play; accepts = accepts; damaged = λ s c S x. damaged-refused s S x c; first-row = refusal-first; no-row = refusal-none; numbered = numbered }

@@ -4,6 +4,7 @@ use mathlib.Core.Bool.{true, false}
 use mathlib.Core.Logic.{_↔_, _⊎_}
 use mathlib.Core.Option.{none, some}
 use mathlib.Core.Path.{_≡_}
+use lib.ListN.{length}
 use Rattle.mask.specs.Member.{holds}
 use Rattle.walks.specs.Walk.{WalkEnd, named}
 use Rattle.walks.specs.Marks.{count}
@@ -26,7 +27,7 @@ use Rattle.coordinator.specs.Close.{afterClose}
 use Rattle.coordinator.specs.Answer.{refused}
 use Rattle.coordinator.specs.Call.{Call, openJob, confirmStep, play}
 use Rattle.soundness.specs.GivenOut.{GivenOut}
-use Rattle.soundness.specs.Refused.{refusalOf}
+use Rattle.soundness.specs.Refused.{refusalOf, rowsOf, row, FirstApplies}
 use Rattle.promises.specs.Moment.{Fits}
 
 -- Demand 1
@@ -37,6 +38,9 @@ pub record Refusals : Type 0 where
   pub accepts : (s : Coordinator) (c : Call) → refusalOf s c ≡ none → play s c .values .refusal ≡ 0
   -- a state that isn't sound is refused with 10, whatever the call
   pub damaged : (s : Coordinator) (c : Call) → Shape s → ¬ Sound s → refusalOf s c ≡ some 10
+  -- the number is that of the first row that applies, and where there is no refusal none does
+  pub first-row : (s : Coordinator) (c : Call) (n : ℕ) → refusalOf s c ≡ some n → FirstApplies (rowsOf s c) n
+  pub no-row : (s : Coordinator) (c : Call) → refusalOf s c ≡ none → (i : ℕ) → i < length (rowsOf s c) → row (rowsOf s c) i .applies ≡ false
   -- no refusal has the number 0
   pub numbered : (s : Coordinator) (c : Call) (n : ℕ) → refusalOf s c ≡ some n → ¬ (n ≡ 0)
 

@@ -5,13 +5,13 @@ use native.Mathlib.Omega.{arith}
 use mathlib.Core.Bool.{Bool, true, false}
 use mathlib.Core.List.{List, [], _∷_}
 use mathlib.Core.Option.{Option, none, some}
-use mathlib.Core.Path.{_≡_, refl}
+use mathlib.Core.Path.{_≡_, refl, sym, _∙_}
 use lib.ListN.{length}
 use Rattle.coordinator.specs.declared.Coordinator.{Coordinator}
-use Rattle.coordinator.specs.Refusal.{Row, firstRow}
+use Rattle.coordinator.specs.Refusal.{Row, firstRow, slotRefusal, stepRefusal, jobRefusal, openRefusal, askRefusal, confirmRefusal, closeRefusal}
 use Rattle.coordinator.specs.Answer.{refused}
 use Rattle.coordinator.specs.Call.{Call, openJob, askStep, confirmStep, closeJob, Played, play}
-use Rattle.soundness.specs.Refused.{refusalOf, row, FirstApplies}
+use Rattle.soundness.specs.Refused.{refusalOf, rowsOf, row, FirstApplies}
 use Rattle.soundness.proofs.Arms.{open-refused, ask-refused, confirm-refused, close-refused}
 
 -- the first row that applies
@@ -52,6 +52,21 @@ none-applies (r ∷ rows) e i l = by (r .applies) refl e (none-applies rows) i l
         → (firstRow rows ≡ none → (i : ℕ) → i < length rows → row rows i .applies ≡ false) → (i : ℕ) → i < suc (length rows) → row (r ∷ rows) i .applies ≡ false
     by true p q below k m = let z : _≡_ {A = ℕ} 0 1 = cc in absurd (omega arith)
     by false p q below k m = at p (below q) k m
+
+-- the refusal of a call is that of the first of its rows
+
+rows-are : (s : Coordinator) (c : Call) → refusalOf s c ≡ firstRow (rowsOf s c)
+unfolding refusalOf rowsOf openRefusal askRefusal confirmRefusal closeRefusal slotRefusal stepRefusal jobRefusal
+rows-are s (openJob mask) = refl
+rows-are s (askStep t k) = refl
+rows-are s (confirmStep t k) = refl
+rows-are s (closeJob t) = refl
+
+pub refusal-first : (s : Coordinator) (c : Call) (n : ℕ) → refusalOf s c ≡ some n → FirstApplies (rowsOf s c) n
+refusal-first s c n e = first-applies (rowsOf s c) n (sym (rows-are s c) ∙ e)
+
+pub refusal-none : (s : Coordinator) (c : Call) → refusalOf s c ≡ none → (i : ℕ) → i < length (rowsOf s c) → row (rowsOf s c) i .applies ≡ false
+refusal-none s c e = none-applies (rowsOf s c) (sym (rows-are s c) ∙ e)
 
 -- a refused call
 
