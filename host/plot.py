@@ -80,7 +80,7 @@ def short(value):
     for limit, name in ((1e6, "M"), (1e3, "k")):
         if value >= limit:
             return f"{value / limit:.0f}{name}" if value >= 10 * limit else f"{value / limit:.2g}{name}"
-    return f"{value:.3g}"
+    return f"{value:.0f}" if value >= 10 else f"{value:.2g}"
 
 
 class Panel:
@@ -107,14 +107,18 @@ class Panel:
     def bars(self, groups):
         """groups: a name and its (implementation, value) pairs, for each."""
         room = self.width / len(groups)
-        for at, (name, values) in enumerate(groups):
-            wide = room * 0.92 / len(values)
-            for place, (implementation, value) in enumerate(values):
+        values = []
+        for at, (name, pairs) in enumerate(groups):
+            wide = room * 0.92 / len(pairs)
+            for place, (implementation, value) in enumerate(pairs):
                 x, y = self.left + room * (at + 0.04) + wide * place, self.y(value)
                 bottom = self.top + self.height
                 self.canvas.box(x + 1, y, wide - 2, bottom - y, colour(implementation))
-                self.canvas.text(x + wide / 2, y - 18, short(value), middle=True)
+                values.append((x + wide / 2, y - 18, short(value)))
             self.label(self.left + room * (at + 0.5), name)
+        # Over all bars, so that no neighbour hides a number.
+        for x, y, words in values:
+            self.canvas.text(x, y, words, middle=True)
 
     def lines(self, names, series):
         """series: an implementation and one value for each name, for each."""
