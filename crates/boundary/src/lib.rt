@@ -1,3 +1,4 @@
+#![tactic(auto)]
 // The library for C: numbers and byte slices. A state is 2,406 bytes, an answer 80. Wrong lengths are refused by 10, and nothing is written.
 mod arrays;
 mod bytes;

@@ -2,7 +2,7 @@
 use crate::Coordinator;
 use numbers::Ticket;
 
-#[derive(Drop)]
+#[derive(Clone, Copy)]
 pub enum OpenAnswer {
     Refused(u8),
     Opened {
@@ -12,53 +12,53 @@ pub enum OpenAnswer {
     },
 }
 
-#[derive(Drop)]
+#[derive(Clone, Copy)]
 pub enum AskAnswer {
     Refused(u8),
     Released,
     Held,
 }
 
-#[derive(Drop)]
+#[derive(Clone, Copy)]
 pub enum ConfirmAnswer {
     Refused(u8),
     Released(Ticket),
     Nothing,
 }
 
-#[derive(Drop)]
+#[derive(Clone, Copy)]
 pub enum CloseAnswer {
     Refused(u8),
     Held,
     Closed(u32),
 }
 
-#[derive(Drop)]
+#[derive(Clone, Copy)]
 pub struct AfterOpen {
     pub answer: OpenAnswer,
     pub state: Coordinator,
 }
 
-#[derive(Drop)]
+#[derive(Clone, Copy)]
 pub struct AfterAsk {
     pub answer: AskAnswer,
     pub state: Coordinator,
 }
 
-#[derive(Drop)]
+#[derive(Clone, Copy)]
 pub struct AfterConfirm {
     pub answer: ConfirmAnswer,
     pub state: Coordinator,
 }
 
 // The tickets closed, in order, stand beside the answer; zeros after them.
-#[derive(Drop)]
+#[derive(Clone, Copy)]
 pub struct Closed {
     pub answer: CloseAnswer,
     pub tickets: [u16; Coordinator::JOBS],
 }
 
-#[derive(Drop)]
+#[derive(Clone, Copy)]
 pub struct AfterClose {
     pub answer: CloseAnswer,
     pub tickets: [u16; Coordinator::JOBS],

@@ -1,3 +1,4 @@
+#![tactic(auto)]
 // The part between: decides for each step of each job whether it goes now or is held.
 pub mod answers;
 pub mod ask;
@@ -24,7 +25,7 @@ use numbers::{Database, NumberMaker, Slot, Ticket};
 
 // The state, by sets of slots. At database k: the slots whose job names k, and those whose step there is asked, released, confirmed.
 // At k * JOBS + b: the slots that go before slot b at k. By slot: the job's ticket, whether its close is held. Then the opening order.
-#[derive(Drop)]
+#[derive(Clone, Copy)]
 pub struct Coordinator {
     pub tickets: [u16; Coordinator::JOBS],
     pub held: u32,

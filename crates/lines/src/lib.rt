@@ -1,3 +1,4 @@
+#![tactic(auto)]
 // Plays records of four bytes and writes a line of four decimal numbers for each.
 mod said;
 mod text;
@@ -20,7 +21,7 @@ const LEFT_OVER: u8 = 12;
 const LONGEST: usize = 47;
 
 // What playing some records leaves: the state, the next index, how many bytes were written, and whether nothing was played.
-#[derive(Drop)]
+#[derive(Clone, Copy)]
 pub struct Played {
     pub state: Coordinator,
     pub index: u64,

@@ -4,7 +4,7 @@ ghost use Rattle.lines.specs.Said.{said_of};
 
 use record::answer::Numbers;
 
-#[derive(Drop)]
+#[derive(Clone, Copy)]
 pub(crate) struct Said {
     pub refusal: u8,
     pub first: u32,

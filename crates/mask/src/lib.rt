@@ -1,3 +1,4 @@
+#![tactic(auto)]
 // A set of slots or of databases in one word: number k is a member where bit k is 1. Both kinds have the same functions, and each is told by the definitions of specs/.
 pub mod databases;
 pub mod slots;

@@ -1,13 +1,14 @@
+#![tactic(auto)]
 // The report keeps transaction nodes and site nodes apart. Here each kind of number is a type of its own, so a ticket cannot index a slot.
 
 pub mod maker;
 
 // A job's number, given out when it is opened. A closed job's number may come back, so a ticket tells nothing about age.
-#[derive(Drop)]
+#[derive(Clone, Copy)]
 pub struct Ticket(pub u16);
 
 // A job's place in the state.
-#[derive(Drop)]
+#[derive(Clone, Copy)]
 pub struct Slot(pub u8);
 
 impl Slot {
@@ -16,7 +17,7 @@ impl Slot {
 }
 
 // A database's number.
-#[derive(Drop)]
+#[derive(Clone, Copy)]
 pub struct Database(pub u8);
 
 impl Database {
@@ -24,7 +25,7 @@ impl Database {
 }
 
 // What gives out tickets: the candidate that the next one starts from.
-#[derive(Drop)]
+#[derive(Clone, Copy)]
 pub struct NumberMaker {
     pub next: u16,
 }

@@ -46,7 +46,7 @@ pub fn take(m: &mut NumberMaker, held: &[u16]) -> Ticket
 }
 
 // What was given out, and the number maker left.
-#[derive(Drop)]
+#[derive(Clone, Copy)]
 pub struct Handed {
     pub ticket: Ticket,
     pub maker: NumberMaker,

@@ -8,7 +8,7 @@ use coordinator::Coordinator;
 use coordinator::answers::{AskAnswer, CloseAnswer, ConfirmAnswer, OpenAnswer};
 
 // The numbers of an answer, zeros where a call has nothing to say.
-#[derive(Drop)]
+#[derive(Clone, Copy)]
 pub struct Numbers {
     pub refusal: u8,
     pub released: u8,
@@ -19,7 +19,7 @@ pub struct Numbers {
 }
 
 // The numbers, and the tickets closed in order with zeros after them.
-#[derive(Drop)]
+#[derive(Clone, Copy)]
 pub struct Answer {
     pub numbers: Numbers,
     pub tickets: [u16; Coordinator::JOBS],

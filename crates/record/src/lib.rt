@@ -1,3 +1,4 @@
+#![tactic(auto)]
 // A record of document 01, played as the call that it is.
 pub mod answer;
 

@@ -1,10 +1,11 @@
+#![tactic(auto)]
 // Reads records from standard input to its end, and writes a line for each.
 ghost use Rattle.std.specs.Prelude.{◌≡◌, length};
 
 use coordinator::Coordinator;
 
 // What the records so far leave: the state, the next index, and whether more may come.
-#[derive(Drop)]
+#[derive(Clone, Copy)]
 pub struct Standing {
     pub state: Coordinator,
     pub index: u64,

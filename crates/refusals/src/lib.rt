@@ -1,3 +1,4 @@
+#![tactic(auto)]
 // Refusals, by the rows of document 01's table: the number of the first that applies, or 0. What a row asks is told in plain values; there is no state here.
 ghost use Rattle.std.specs.Prelude.{◌≡◌};
 ghost use Rattle.mask.specs.Member.{size};

@@ -1,3 +1,4 @@
+#![tactic(auto)]
 // The opening search of document 01. Visiting a job leads to its databases, and visiting a database leads to jobs again.
 // Its arrays hold sets of slots. `named` at u: those that name u. `dependencies` at u * Slot::COUNT + w: those that go before w at u.
 // `reached` at u: those reached through u. `found` at u: those with a found dependency to the new job at u.
@@ -16,7 +17,7 @@ const SLOTS: u8 = Slot::COUNT as u8;
 
 const DATABASES: u8 = Database::COUNT as u8;
 
-#[derive(Drop)]
+#[derive(Clone, Copy)]
 pub struct Sought {
     pub found: [u32; Database::COUNT],
     pub moves: u32,

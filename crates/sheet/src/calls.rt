@@ -97,7 +97,7 @@ pub(crate) fn opened(s: Coordinator, n: u32) -> Coordinator {
 }
 
 // The state, and in how many rounds the ticket was the round's number.
-#[derive(Drop)]
+#[derive(Clone, Copy)]
 pub(crate) struct Table {
     pub(crate) state: Coordinator,
     pub(crate) as_told: u32,

@@ -1,3 +1,4 @@
+#![tactic(auto)]
 // Runs the whole job sheet of document 01 against the code: a line of output for each line of the sheet, compared with the stored output.
 mod calls;
 mod say;

@@ -1,3 +1,4 @@
+#![tactic(auto)]
 // What the tables of a state say by themselves: who is open, who holds a ticket, and whether they are sound. Tables are lent; there is no state here.
 mod differ;
 pub mod holders;

@@ -1,9 +1,0 @@
-use Rattle.std.proofs.Common.{refl}
-use Rattle.mask.proofs.slots.less.Statement.{statement}
-use Rattle.mask.proofs.slots.less.Tie as tie
-
-returns : tie.Need-returns
-returns c = refl
-
-pub less-spec : {M : Type 1} → statement M
-less-spec = tie.close (tie.spec returns)
