@@ -1,4 +1,4 @@
-use Rattle.std.proofs.Common.{ℕ, ◌≡◌, eqb, ap, ◌∙◌}
+use Rattle.std.proofs.Common.{ℕ, eqb, ap, ◌∙◌}
 use Rattle.loops.proofs.Turns.{over_none, over_more, over_done}
 use Rattle.mask.specs.Members.{union_of}
 use Rattle.tables.specs.Limits.{jobs}

@@ -1,4 +1,4 @@
-use Rattle.std.proofs.Common.{rules, sym}
+use Rattle.std.proofs.Common.{sym}
 use Rattle.loops.proofs.Turns.{every_fails}
 use Rattle.tables.specs.Limits.{jobs}
 use Rattle.tables.proofs.Owning.{met_none, met-lowest, met-own, met-again, met-falls, met_all}
