@@ -2,7 +2,7 @@
 use Prim.Native.Nat.{ℕ, ◌+◌, ◌*◌, ◌^◌, ◌<◌, ◌≤◌}
 use native.Mathlib.Omega.{arith}
 use native.Mathlib.Decide.{dec_lt}
-use mathlib.Core.Bool.{Bool, true, false, ◌&&◌, ◌||◌, and_true, and_false, or_comm}
+use mathlib.Core.Bool.{Bool, true, false, ◌&&◌, ◌||◌, and-true, and-false, or_comm}
 use mathlib.Core.List.{List}
 use mathlib.Core.Path.{◌≡◌, refl, ap, ◌∙◌}
 use borrow.Author.Tests.{eqb-true, eqb-false}
@@ -44,12 +44,12 @@ module _ (d : List ℕ) (h : Sized steps jobs d) where
 
       by : (t : Bool) → eqb u k ≡ t → (z : Bool) → holds m b ≡ z → holds (entry (lead_to k j m d) (u * jobs + b)) a ≡ t && eqb a j && z || holds old a
       by true e true y =
-          rw (eqb-true u k e, and_true (eqb a j))
+          rw (eqb-true u k e, and-true (eqb a j))
           (ap (λ (x : ℕ). holds x a) (stores_at f g (holds m) apart jobs b d c (omega (arith, h.size)) y)
           ∙ holds_or (entry d (k * jobs + b)) (2 ^ j) a
           ∙ or_comm (holds (entry d (k * jobs + b)) a) _
           ∙ ap (λ (z : Bool). z || holds (entry d (k * jobs + b)) a) (holds_one j a))
-      by true e false y = rw (eqb-true u k e, and_false (eqb a j)) (ap (λ (x : ℕ). holds x a) (stores-off f g (holds m) apart jobs b d y))
+      by true e false y = rw (eqb-true u k e, and-false (eqb a j)) (ap (λ (x : ℕ). holds x a) (stores-off f g (holds m) apart jobs b d y))
       by false e z y = ap (λ (x : ℕ). holds x a) (stores_else f g (holds m) jobs (u * jobs + b) d (λ i q p. let ne = eqb-false u k e in omega arith))
 
   -- at each database k that passes the test, the set R k goes before slot n
