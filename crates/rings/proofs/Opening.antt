@@ -111,11 +111,12 @@ module _ (H : History) (named : ℕ → Type 0) (found : ℕ → ℕ → Type 0)
       more : (unsearched H named).dep u v w → G.dep u v w
       more (inl d) = inl d
       more (inr (e, inl r)) = inr (e, inl r)
+      more (inr (e, inr f)) = absurd f
 
   -- so a walk that is left would end with a dependency that was found
   module _ (S : Searched H named found) where
     no_end : {t v u : ℕ} → Reached H named v t → u ≢ t → ¬ Walk G H.count v u
-    no_end r n (home l) = l.free (inr (refl, inr (S.found_All r n (was_free l))))
+    no_end r n (home l) = l.free (inr (refl, inr (S.found_all r n (was_free l))))
     no_end r n (onward l o h d w) = no_end (next r n (was_free l) (h, o.1)) (λ e. d (sym e)) w
 
     no_walk : {u : ℕ} → ¬ Walk G H.count H.count u
