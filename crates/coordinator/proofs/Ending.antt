@@ -30,22 +30,22 @@ pub record Accepted (b : Bool) (s : Coordinator) (t f j : ℕ) : Type 0 where
 
 module _ {s : Coordinator} {t f j : ℕ} (r : Read s t f j) (b : Bool) where
   -- the rows that the code goes down are the call's
-  pub close_rows : (isConfirmed is_held : Bool) → isConfirmed ≡ all_confirmed_in s.named s.confirmed j → is_held ≡ holds s.held j
-      → job_refusal b f isConfirmed is_held ≡ close_refusal_tested b s t
+  pub close_rows : (is_confirmed is_held : Bool) → is_confirmed ≡ all_confirmed_in s.named s.confirmed j → is_held ≡ holds s.held j
+      → job_refusal b f is_confirmed is_held ≡ close_refusal_tested b s t
   unfolding job_refusal all_confirmed_in all_confirmed names in_mask confirmed held
-  close_rows isConfirmed is_held p q = rw (p, q, r.found, r.slot)
+  close_rows is_confirmed is_held p q = rw (p, q, r.found, r.slot)
 
-  pub close_accepted : (isConfirmed is_held : Bool) (x : ℕ) → job_refusal b f isConfirmed is_held ≡ close_refusal_tested b s t → x ≡ number_of (job_refusal b f isConfirmed is_held) → x ≡ 0
+  pub close_accepted : (is_confirmed is_held : Bool) (x : ℕ) → job_refusal b f is_confirmed is_held ≡ close_refusal_tested b s t → x ≡ number_of (job_refusal b f is_confirmed is_held) → x ≡ 0
       → Accepted b s t f j
-  close_accepted isConfirmed is_held x rows e z =
-      let p = close_passed b f isConfirmed is_held (sym e ∙ z) in
+  close_accepted is_confirmed is_held x rows e z =
+      let p = close_passed b f is_confirmed is_held (sym e ∙ z) in
       record { none_applies = sym rows ∙ p.0; some = p.1; slot = r.slot; fits = slot_below r p.1 }
 
-pub close_taken : (b : Bool) (s : Coordinator) (t f j : ℕ) (isConfirmed is_held : Bool) (x : ℕ) → f ≡ holders_in s.tickets (open_in s.named) t → j ≡ lowest jobs f
-    → isConfirmed ≡ all_confirmed_in s.named s.confirmed j → is_held ≡ holds s.held j → x ≡ number_of (job_refusal b f isConfirmed is_held) → x ≡ 0 → Accepted b s t f j
-close_taken b s t f j isConfirmed is_held x p q c h e z =
+pub close_taken : (b : Bool) (s : Coordinator) (t f j : ℕ) (is_confirmed is_held : Bool) (x : ℕ) → f ≡ holders_in s.tickets (open_in s.named) t → j ≡ lowest jobs f
+    → is_confirmed ≡ all_confirmed_in s.named s.confirmed j → is_held ≡ holds s.held j → x ≡ number_of (job_refusal b f is_confirmed is_held) → x ≡ 0 → Accepted b s t f j
+close_taken b s t f j is_confirmed is_held x p q c h e z =
     let r = read s t f j p q in
-    close_accepted r b isConfirmed is_held x (close_rows r b isConfirmed is_held c h) e z
+    close_accepted r b is_confirmed is_held x (close_rows r b is_confirmed is_held c h) e z
 
 -- the three ends
 

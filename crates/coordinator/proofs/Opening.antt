@@ -1,10 +1,10 @@
 -- What the code of an opening has read and done, put together: it is refused or accepted as defined. Assumes nothing.
 use Prim.Native.Nat.{ℕ, ◌-◌, ◌^◌, ◌<◌}
 use native.Mathlib.Omega.{arith}
-use mathlib.Core.Bool.{Bool, true, false, not}
-use mathlib.Core.List.{List, [], ◌∷◌}
-use mathlib.Core.Option.{Option, none, some}
-use mathlib.Core.Path.{◌≡◌, refl, sym, ap, ◌∙◌}
+use mathlib.Core.Bool.{Bool}
+use mathlib.Core.List.{List}
+use mathlib.Core.Option.{none}
+use mathlib.Core.Path.{◌≡◌, sym, ap, ◌∙◌}
 use borrow.Author.Tests.{lt-ltb}
 use lib.ListN.{length, set}
 use Rattle.loops.specs.Loop.{over}
@@ -20,7 +20,6 @@ use Rattle.search.specs.declared.Sought.{Sought}
 use Rattle.search.specs.Search.{searched, sought}
 use Rattle.coordinator.specs.declared.Coordinator.{Coordinator}
 use Rattle.coordinator.specs.declared.answers.OpenAnswer.{OpenAnswer}
-use Rattle.coordinator.specs.declared.answers.OpenAnswer.TheVariants.{Refused, Opened}
 use Rattle.coordinator.specs.Limits.{jobs, databases}
 use Rattle.coordinator.specs.Views.{entry, in_mask, names, open_slots, open_count, ticket, opened, into, dep}
 use Rattle.coordinator.specs.Refusal.{number_of, slot_refusal, open_refusal_tested}

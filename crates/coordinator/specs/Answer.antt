@@ -1,7 +1,6 @@
 -- Document 01's number and values for each answer. Assumes nothing: these are definitions.
 use Rattle.std.specs.Prelude.{ℕ, List, [], take}
 use Rattle.coordinator.specs.declared.answers.OpenAnswer.{OpenAnswer}
-use Rattle.coordinator.specs.declared.answers.OpenAnswer.TheVariants.{Opened}
 use Rattle.coordinator.specs.declared.answers.AskAnswer.{AskAnswer}
 use Rattle.coordinator.specs.declared.answers.ConfirmAnswer.{ConfirmAnswer}
 use Rattle.coordinator.specs.declared.answers.CloseAnswer.{CloseAnswer}

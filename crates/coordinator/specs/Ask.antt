@@ -27,4 +27,4 @@ after_ask s t k = ask_answered (ask_refusal s t k) s t k
 
 -- the same, given whether the state is sound
 unfoldable pub after_ask_tested : Bool → Coordinator → ℕ → ℕ → AfterAsk
-after_ask_tested isSound s t k = ask_answered (ask_refusal_tested isSound s t k) s t k
+after_ask_tested is_sound s t k = ask_answered (ask_refusal_tested is_sound s t k) s t k

@@ -1,10 +1,10 @@
 -- The small changes of the tables, of which the calls are made. Assumes nothing: these are definitions.
-use Rattle.std.specs.Prelude.{ℕ, suc, ◌+◌, ◌*◌, ◌^◌, not, List, eqb, ltb, set}
+use Rattle.std.specs.Prelude.{ℕ, ◌+◌, ◌*◌, ◌^◌, not, List, eqb, ltb, set}
 use Rattle.std.specs.Int.Bits.{bit_or}
 use Rattle.loops.specs.Loop.{over}
 use Rattle.loops.specs.Sum.{tally}
 use Rattle.loops.specs.Table.{table}
-use Rattle.mask.specs.Member.{including, excluding, less, lowest}
+use Rattle.mask.specs.Member.{including, excluding, lowest}
 use Rattle.mask.specs.Members.{over_members, gather}
 use Rattle.coordinator.specs.declared.Coordinator.{Coordinator}
 use Rattle.coordinator.specs.Limits.{jobs, databases, steps}

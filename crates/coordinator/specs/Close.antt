@@ -52,4 +52,4 @@ after_close s t = close_answered (close_refusal s t) s t
 
 -- the same, given whether the state is sound
 unfoldable pub after_close_tested : Bool → Coordinator → ℕ → AfterClose
-after_close_tested isSound s t = close_answered (close_refusal_tested isSound s t) s t
+after_close_tested is_sound s t = close_answered (close_refusal_tested is_sound s t) s t

@@ -32,4 +32,4 @@ after_confirm s t k = confirm_answered (confirm_refusal s t k) s t k
 
 -- the same, given whether the state is sound
 unfoldable pub after_confirm_tested : Bool → Coordinator → ℕ → ℕ → AfterConfirm
-after_confirm_tested isSound s t k = confirm_answered (confirm_refusal_tested isSound s t k) s t k
+after_confirm_tested is_sound s t k = confirm_answered (confirm_refusal_tested is_sound s t k) s t k

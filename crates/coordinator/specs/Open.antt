@@ -12,7 +12,6 @@ use Rattle.walks.specs.Search.{Seek, opening_search}
 use Rattle.numbers.specs.Ticket.{ticket_from, after}
 use Rattle.coordinator.specs.declared.Coordinator.{Coordinator}
 use Rattle.coordinator.specs.declared.answers.OpenAnswer.{OpenAnswer}
-use Rattle.coordinator.specs.declared.answers.OpenAnswer.TheVariants.{Refused, Opened}
 use Rattle.coordinator.specs.declared.answers.AfterOpen.{AfterOpen}
 use Rattle.coordinator.specs.Limits.{jobs, databases, steps}
 use Rattle.coordinator.specs.Views.{entry, names, open_slots, open_count, ticket, opened, dep}
@@ -64,4 +63,4 @@ after_open s mask = open_answered (open_refusal s mask) s mask
 
 -- the same, given whether the state is sound
 unfoldable pub after_open_tested : Bool → Coordinator → ℕ → AfterOpen
-after_open_tested isSound s mask = open_answered (open_refusal_tested isSound s mask) s mask
+after_open_tested is_sound s mask = open_answered (open_refusal_tested is_sound s mask) s mask

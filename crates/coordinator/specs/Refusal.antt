@@ -15,17 +15,17 @@ all_confirmed s j = every databases (λ k. not (names s j k) || confirmed s j k)
 
 -- the refusal of each call, given whether the state is sound
 abbrev pub open_refusal_tested : Bool → Coordinator → ℕ → Option ℕ
-open_refusal_tested isSound s mask = slot_refusal isSound mask (open_count s)
+open_refusal_tested is_sound s mask = slot_refusal is_sound mask (open_count s)
 
 abbrev pub ask_refusal_tested : Bool → Coordinator → ℕ → ℕ → Option ℕ
-ask_refusal_tested isSound s t k = step_refusal isSound (holders s t) k (in_mask s (holder s t) k) (asked s (holder s t) k) 6
+ask_refusal_tested is_sound s t k = step_refusal is_sound (holders s t) k (in_mask s (holder s t) k) (asked s (holder s t) k) 6
 
 abbrev pub confirm_refusal_tested : Bool → Coordinator → ℕ → ℕ → Option ℕ
-confirm_refusal_tested isSound s t k =
-    step_refusal isSound (holders s t) k (in_mask s (holder s t) k) (not (released s (holder s t) k) || confirmed s (holder s t) k) 7
+confirm_refusal_tested is_sound s t k =
+    step_refusal is_sound (holders s t) k (in_mask s (holder s t) k) (not (released s (holder s t) k) || confirmed s (holder s t) k) 7
 
 abbrev pub close_refusal_tested : Bool → Coordinator → ℕ → Option ℕ
-close_refusal_tested isSound s t = job_refusal isSound (holders s t) (all_confirmed s (holder s t)) (held s (holder s t))
+close_refusal_tested is_sound s t = job_refusal is_sound (holders s t) (all_confirmed s (holder s t)) (held s (holder s t))
 
 -- and of a state as it is
 unfoldable pub open_refusal : Coordinator → ℕ → Option ℕ

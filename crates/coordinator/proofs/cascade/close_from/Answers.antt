@@ -1,4 +1,4 @@
-use Rattle.std.proofs.Common.{ℕ, ◌<◌, ◌^◌, ap, arith}
+use Rattle.std.proofs.Common.{◌<◌, ap, arith}
 use Rattle.coordinator.specs.Limits.{jobs}
 use Rattle.coordinator.specs.State.{state_of}
 use Rattle.coordinator.specs.Close.{after_closing}

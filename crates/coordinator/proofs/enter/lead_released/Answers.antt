@@ -1,5 +1,3 @@
-use Rattle.std.proofs.Common.{arith}
-use Rattle.mask.specs.Lowest.{Lowest}
 use Rattle.mask.proofs.Walking.{left_start, left-lowest, left-rest, left-falls, left_done}
 use Rattle.coordinator.specs.Limits.{databases}
 use Rattle.coordinator.proofs.enter.lead_released.Goals as goal
