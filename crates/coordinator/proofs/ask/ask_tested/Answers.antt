@@ -31,8 +31,8 @@ mark-requires c =
 pub bounds-dependencies-step : goal.bounds-dependencies-step
 bounds-dependencies-step c =
     let f =
-        fits _ c.args.tickets.now c.args.named.now c.args.asked.now c.args.ticket.0 _ _ _ _ _ _ c.holders_of-found.ensures c.lowest_of-slot.ensures
-        c.holds_at-names.ensures c.holds_at-applies.ensures c.of_step-refused.ensures c.if-refused-ne0.false in
+    fits _ c.args.tickets.now c.args.named.now c.args.asked.now c.args.ticket.0 _ _ _ _ _ _ c.holders_of-found.ensures c.lowest_of-slot.ensures
+    c.holds_at-names.ensures c.holds_at-applies.ensures c.of_step-refused.ensures c.if-refused-ne0.false in
     omega (arith, f.0, f.1)
 
 pub bounds-confirmed-k : goal.bounds-confirmed-k
@@ -44,8 +44,8 @@ pub returns-then-not-may_go : goal.returns-then-not-may_go
 returns-then-not-may_go c = λ held next order.
     let s = state_of c.args.tickets.now held order c.args.named.now c.args.asked.now c.args.released.now c.args.confirmed.now c.args.dependencies.now next in
     let a =
-        ask_accepted _ s c.args.ticket.0 c.args.database.0 _ _ _ _ _ c.holders_of-found.ensures c.lowest_of-slot.ensures c.holds_at-names.ensures
-        c.holds_at-applies.ensures c.of_step-refused.ensures c.if-refused-ne0.false in
+    ask_accepted _ s c.args.ticket.0 c.args.database.0 _ _ _ _ _ c.holders_of-found.ensures c.lowest_of-slot.ensures c.holds_at-names.ensures
+    c.holds_at-applies.ensures c.of_step-refused.ensures c.if-refused-ne0.false in
     ask_held _ s c.args.ticket.0 c.args.database.0 _ a.none_applies a.slot _ c.mark.ensures _ c.may_go.ensures c.if-not-may_go.true
 
 pub mark-requires-2 : goal.mark-requires-2
@@ -72,7 +72,7 @@ pub returns : goal.returns
 returns c = λ held next order.
     let s = state_of c.args.tickets.now held order c.args.named.now c.args.asked.now c.args.released.now c.args.confirmed.now c.args.dependencies.now next in
     let a =
-        ask_accepted _ s c.args.ticket.0 c.args.database.0 _ _ _ _ _ c.holders_of-found.ensures c.lowest_of-slot.ensures c.holds_at-names.ensures
-        c.holds_at-applies.ensures c.of_step-refused.ensures c.if-refused-ne0.false in
+    ask_accepted _ s c.args.ticket.0 c.args.database.0 _ _ _ _ _ c.holders_of-found.ensures c.lowest_of-slot.ensures c.holds_at-names.ensures
+    c.holds_at-applies.ensures c.of_step-refused.ensures c.if-refused-ne0.false in
     ask_released _ s c.args.ticket.0 c.args.database.0 _ a.none_applies a.slot _ c.mark.ensures _ c.may_go.ensures c.if-not-may_go.false
     _ c.mark-2.ensures _ c.less-later.ensures _ c.lead_to.ensures

@@ -21,16 +21,16 @@ pub returns-then-may_close : goal.returns-then-may_close
 returns-then-may_close c = λ next.
     let s = state_of c.args.tickets.now c.args.held.now c.args.order.now c.args.named.now c.args.asked.now c.args.released.now c.args.confirmed.now c.args.dependencies.now next in
     let a =
-        close_taken _ s c.args.ticket.0 _ _ _ _ _ c.holders_of-found.ensures c.lowest_of-slot.ensures c.all_confirmed-finished.ensures c.holds-waits.ensures
-        c.of_close-refused.ensures c.if-refused-eq0.true in
+    close_taken _ s c.args.ticket.0 _ _ _ _ _ c.holders_of-found.ensures c.lowest_of-slot.ensures c.all_confirmed-finished.ensures c.holds-waits.ensures
+    c.of_close-refused.ensures c.if-refused-eq0.true in
     close_closed _ s c.args.ticket.0 _ a.none_applies a.slot (sym c.may_close.ensures ∙ c.if-may_close.true) _ c.lowest_of-slot.ensures _ (c.close_from.ensures next)
 
 pub returns-else-may_close : goal.returns-else-may_close
 returns-else-may_close c = λ next.
     let s = state_of c.args.tickets.now c.args.held.now c.args.order.now c.args.named.now c.args.asked.now c.args.released.now c.args.confirmed.now c.args.dependencies.now next in
     let a =
-        close_taken _ s c.args.ticket.0 _ _ _ _ _ c.holders_of-found.ensures c.lowest_of-slot.ensures c.all_confirmed-finished.ensures c.holds-waits.ensures
-        c.of_close-refused.ensures c.if-refused-eq0.true in
+    close_taken _ s c.args.ticket.0 _ _ _ _ _ c.holders_of-found.ensures c.lowest_of-slot.ensures c.all_confirmed-finished.ensures c.holds-waits.ensures
+    c.of_close-refused.ensures c.if-refused-eq0.true in
     close_held_lem _ s c.args.ticket.0 _ a.none_applies a.slot (sym c.may_close.ensures ∙ c.if-may_close.false) a.fits _ c.with_member.ensures
 
 pub returns-else-refused-eq0 : goal.returns-else-refused-eq0

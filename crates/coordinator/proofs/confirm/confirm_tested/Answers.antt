@@ -60,15 +60,16 @@ pub returns-then-free-eq0 : goal.returns-then-free-eq0
 returns-then-free-eq0 c = λ held next order.
     let s = state_of c.args.tickets.now held order c.args.named.now c.args.asked.now c.args.released.now c.args.confirmed.now c.args.dependencies.now next in
     let a =
-        confirm_accepted _ s c.args.ticket.0 c.args.database.0 _ _ _ _ _ c.holders_of-found.ensures c.lowest_of-slot.ensures c.holds_at-names.ensures
-        (settled _ _ _ _ _ _ _ c.at-gone.ensures c.at.ensures c.is_settled-settled.ensures) c.of_step-refused.ensures c.if-refused-ne0.false in
+    confirm_accepted _ s c.args.ticket.0 c.args.database.0 _ _ _ _ _ c.holders_of-found.ensures c.lowest_of-slot.ensures c.holds_at-names.ensures
+    (settled _ _ _ _ _ _ _ c.at-gone.ensures c.at.ensures c.is_settled-settled.ensures) c.of_step-refused.ensures c.if-refused-ne0.false in
     confirm_nothing _ s c.args.ticket.0 c.args.database.0 _ a.none_applies a.slot _ c.mark.ensures _ c.going_of-free.ensures c.if-free-eq0.true
 
 pub mark-requires-2 : goal.mark-requires-2
-mark-requires-2 c =
-    ((fits _ c.args.tickets.now c.args.named.now c.args.released.now c.args.confirmed.now c.args.ticket.0 _ _ _ _ _ _ _ _ c.holders_of-found.ensures c.lowest_of-slot.ensures
-    c.holds_at-names.ensures c.at-gone.ensures c.at.ensures c.is_settled-settled.ensures c.of_step-refused.ensures c.if-refused-ne0.false).0,
-    first_below _ _ _ _ _ _ _ c.going_of-free.ensures c.if-free-eq0.false c.lowest_of-first.ensures)
+mark-requires-2 c = (
+  (fits _ c.args.tickets.now c.args.named.now c.args.released.now c.args.confirmed.now c.args.ticket.0 _ _ _ _ _ _ _ _ c.holders_of-found.ensures c.lowest_of-slot.ensures
+      c.holds_at-names.ensures c.at-gone.ensures c.at.ensures c.is_settled-settled.ensures c.of_step-refused.ensures c.if-refused-ne0.false).0,
+  first_below _ _ _ _ _ _ _ c.going_of-free.ensures c.if-free-eq0.false c.lowest_of-first.ensures,
+)
 
 pub bounds-named-k : goal.bounds-named-k
 bounds-named-k c =
@@ -81,10 +82,11 @@ bounds-released-k-2 c =
     c.holds_at-names.ensures c.at-gone.ensures c.at.ensures c.is_settled-settled.ensures c.of_step-refused.ensures c.if-refused-ne0.false).0
 
 pub lead_to-requires : goal.lead_to-requires
-lead_to-requires c =
-    ((fits _ c.args.tickets.now c.args.named.now c.args.released.now c.args.confirmed.now c.args.ticket.0 _ _ _ _ _ _ _ _ c.holders_of-found.ensures c.lowest_of-slot.ensures
-    c.holds_at-names.ensures c.at-gone.ensures c.at.ensures c.is_settled-settled.ensures c.of_step-refused.ensures c.if-refused-ne0.false).0,
-    first_below _ _ _ _ _ _ _ c.going_of-free.ensures c.if-free-eq0.false c.lowest_of-first.ensures)
+lead_to-requires c = (
+  (fits _ c.args.tickets.now c.args.named.now c.args.released.now c.args.confirmed.now c.args.ticket.0 _ _ _ _ _ _ _ _ c.holders_of-found.ensures c.lowest_of-slot.ensures
+      c.holds_at-names.ensures c.at-gone.ensures c.at.ensures c.is_settled-settled.ensures c.of_step-refused.ensures c.if-refused-ne0.false).0,
+  first_below _ _ _ _ _ _ _ c.going_of-free.ensures c.if-free-eq0.false c.lowest_of-first.ensures,
+)
 
 pub bounds-tickets-at : goal.bounds-tickets-at
 bounds-tickets-at c = first_below _ _ _ _ _ _ _ c.going_of-free.ensures c.if-free-eq0.false c.lowest_of-first.ensures
@@ -93,7 +95,7 @@ pub returns : goal.returns
 returns c = λ held next order.
     let s = state_of c.args.tickets.now held order c.args.named.now c.args.asked.now c.args.released.now c.args.confirmed.now c.args.dependencies.now next in
     let a =
-        confirm_accepted _ s c.args.ticket.0 c.args.database.0 _ _ _ _ _ c.holders_of-found.ensures c.lowest_of-slot.ensures c.holds_at-names.ensures
-        (settled _ _ _ _ _ _ _ c.at-gone.ensures c.at.ensures c.is_settled-settled.ensures) c.of_step-refused.ensures c.if-refused-ne0.false in
+    confirm_accepted _ s c.args.ticket.0 c.args.database.0 _ _ _ _ _ c.holders_of-found.ensures c.lowest_of-slot.ensures c.holds_at-names.ensures
+    (settled _ _ _ _ _ _ _ c.at-gone.ensures c.at.ensures c.is_settled-settled.ensures) c.of_step-refused.ensures c.if-refused-ne0.false in
     confirm_released _ s c.args.ticket.0 c.args.database.0 _ a.none_applies a.slot _ c.mark.ensures _ c.going_of-free.ensures c.if-free-eq0.false
     _ c.lowest_of-first.ensures _ refl _ c.mark-2.ensures _ c.less-later.ensures _ c.lead_to.ensures
