@@ -1,5 +1,5 @@
 -- The test of the opening order decides that it lists each open slot once and nothing else, its unused end zeros. Assumes nothing.
-use Prim.Native.Nat.{ℕ, zero, suc, ◌+◌, ◌^◌, ◌<◌, ◌≤◌}
+use Prim.Native.Nat.{ℕ, zero, suc, ◌^◌, ◌<◌, ◌≤◌}
 use native.Mathlib.Omega.{arith}
 use native.Mathlib.Nat.{le_refl, not-suc-le-zero}
 use native.Mathlib.Decide.{dec_lt}
@@ -13,7 +13,7 @@ use Rattle.loops.specs.Loop.{over, every}
 use Rattle.loops.proofs.Rules.{below_suc}
 use Rattle.loops.proofs.Tests.{both, and_left, and_right, and_both, or_cases, or_right}
 use Rattle.loops.proofs.Turns.{over_keeps, every_at, every_of}
-use Rattle.mask.specs.Member.{holds, including, less, size}
+use Rattle.mask.specs.Member.{holds, less, size}
 use Rattle.mask.proofs.Change.{including_lt}
 use Rattle.mask.proofs.Holds.{holds_none, holds_including, holds_less}
 use Rattle.mask.proofs.Size.{size_none, size_including, size_within}
@@ -138,9 +138,9 @@ module _ (s : Coordinator) (h : Shape s) where
       small : (i : ℕ) → i < open_count s → opened s i < jobs
       small i l = open_range s h (opened s i) (r.only i l)
 
-      unlisted-at : (i : ℕ) → i < open_count s → (b : Bool) → holds (listed s.order i) (opened s i) ≡ b → not b ≡ true
-      unlisted-at i l true p = let (k, m, q) = listed_from s i (opened s i) p in absurd (omega (arith, m, r.once k i (omega arith) l q))
-      unlisted-at i l false p = refl
+      unlisted_at : (i : ℕ) → i < open_count s → (b : Bool) → holds (listed s.order i) (opened s i) ≡ b → not b ≡ true
+      unlisted_at i l true p = let (k, m, q) = listed_from s i (opened s i) p in absurd (omega (arith, m, r.once k i (omega arith) l q))
+      unlisted_at i l false p = refl
 
       by : (i : ℕ) (b : Bool) → ltb i (open_count s) ≡ b → place_sound s.order (open_slots s) i ≡ true
       by i true e =
@@ -148,7 +148,7 @@ module _ (s : Coordinator) (h : Shape s) where
           at_open s i l
           ∙ and_both (lt-ltb (opened s i) jobs (small i l))
           (new_slot s i (listed_small s i (λ k m. small k (omega arith))) (small i l)
-          ∙ and_both (r.only i l) (unlisted-at i l (holds (listed s.order i) (opened s i)) refl))
+          ∙ and_both (r.only i l) (unlisted_at i l (holds (listed s.order i) (opened s i)) refl))
       by i false e = let l = ltb-false i (open_count s) e in at_end s i l ∙ eq-eqb (opened s i) 0 (r.end i l)
 
   pub order_iff : (every jobs (place_sound s.order (open_slots s)) ≡ true) ↔ Ordered s

@@ -4,14 +4,14 @@ use native.Mathlib.Nat.{lt_of_le_of_lt}
 use mathlib.Core.Bool.{Bool, true, false, not, ◌&&◌}
 use mathlib.Core.Logic.{◌↔◌}
 use mathlib.Core.Path.{◌≡◌, refl, sym, ap, ◌∙◌}
-use borrow.Author.Tests.{eq-eqb, eqb-true, eqb-false, ne_eqb, not-true}
+use borrow.Author.Tests.{eqb-false, ne_eqb, not-true}
 use lib.Bits.{bit_and, and_le_l}
 use lib.Dec.{eqb}
 use lib.ListN.{drop}
 use lib.Pow.{pow_pos}
 use lib.Seq.{get_or-drop}
 use Rattle.loops.specs.Loop.{every}
-use Rattle.loops.proofs.Tests.{both, and_left, and_right, and_both}
+use Rattle.loops.proofs.Tests.{and_left, and_right, and_both}
 use Rattle.loops.proofs.Turns.{every_at, every_of}
 use Rattle.mask.specs.Member.{holds, excluding, less, within}
 use Rattle.mask.proofs.Change.{excluding_lt, less_lt}
@@ -19,7 +19,7 @@ use Rattle.mask.proofs.Holds.{holds_none, holds_and, holds_excluding, holds_less
 use Rattle.mask.proofs.Equal.{within_iff}
 use Rattle.tables.specs.Test.{marks_sound, partners, pressing, row_sound, rows_sound, steps_sound, database_sound}
 use Rattle.coordinator.specs.declared.Coordinator.{Coordinator}
-use Rattle.coordinator.specs.Limits.{jobs, databases}
+use Rattle.coordinator.specs.Limits.{jobs}
 use Rattle.coordinator.specs.Shape.{Shape}
 use Rattle.coordinator.specs.Views.{entry, in_mask, names, asked, released, confirmed, held, into, dep}
 use Rattle.effects.proofs.Bounds.{into_small}

@@ -1,7 +1,6 @@
 -- What each part of the test for soundness decides, in views. Assumes nothing: these are definitions.
-use Rattle.std.specs.Prelude.{ℕ, ◌<◌, true, false, ◌≡◌}
+use Rattle.std.specs.Prelude.{ℕ, true, false, ◌≡◌}
 use Rattle.coordinator.specs.declared.Coordinator.{Coordinator}
-use Rattle.coordinator.specs.Limits.{jobs}
 use Rattle.coordinator.specs.Views.{names, asked, released, confirmed, is_open, ticket, held, dep}
 
 -- the tickets of open jobs differ, and a free slot has none

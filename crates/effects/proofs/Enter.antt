@@ -2,7 +2,7 @@
 use Prim.Native.Nat.{ℕ, suc, ◌^◌, ◌<◌}
 use native.Mathlib.Nat.{mod-lt}
 use native.Mathlib.Omega.{arith}
-use mathlib.Core.Bool.{Bool, true, false, ◌&&◌, ◌||◌, and_true, and_false}
+use mathlib.Core.Bool.{Bool, true, false, ◌&&◌, ◌||◌, and-true, and-false}
 use mathlib.Core.List.{List}
 use mathlib.Core.Logic.{◌⊎◌, inl, inr}
 use mathlib.Core.Path.{◌≡◌, refl, ap, sym, ◌∙◌}
@@ -27,7 +27,7 @@ use Rattle.effects.specs.View.{view, Alike}
 use Rattle.effects.specs.Effect.{entered_at}
 use Rattle.effects.proofs.Bounds.{entry_beyond, open_iff}
 use Rattle.effects.proofs.Sized.{sized_set, stored}
-use Rattle.effects.proofs.Stores.{stores_at, stores-off, stores_sized}
+use Rattle.effects.proofs.Stores.{stores_at, stores_off, stores_sized}
 use Rattle.effects.proofs.Rows.{led_into_lem, led_into_sized}
 
 -- slot n joins the set at each database of the mask
@@ -47,9 +47,9 @@ module _ (l : List ℕ) (h : Sized databases jobs l) (n mask : ℕ) where
       by : (b : Bool) → holds mask u ≡ b → holds (entry joined_by u) a ≡ eqb a n && b || holds (entry l u) a
       by true e =
           let k : u < databases = holds_below databases mask u small e in
-          rw (and_true (eqb a n))
+          rw (and-true (eqb a n))
           (ap (λ (x : ℕ). holds x a) (stores_at (λ k. k) (λ k x. including x n) (holds mask) (λ i k p. p) databases u l k (omega (arith, h.size)) e) ∙ holds_including (entry l u) n a)
-      by false e = rw (and_false (eqb a n)) (ap (λ (x : ℕ). holds x a) (stores-off (λ k. k) (λ k x. including x n) (holds mask) (λ i k p. p) databases u l e))
+      by false e = rw (and-false (eqb a n)) (ap (λ (x : ℕ). holds x a) (stores_off (λ k. k) (λ k x. including x n) (holds mask) (λ i k p. p) databases u l e))
 
 module _ (s : Coordinator) (h : Shape s) (n mask : ℕ) (slot : n < jobs) (some : 0 < mask) (small : mask < 2 ^ databases) where
   abbrev t : Coordinator

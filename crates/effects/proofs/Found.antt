@@ -1,6 +1,6 @@
 -- The dependencies that the search found, added. Assumes nothing.
 use Prim.Native.Nat.{ℕ, ◌<◌}
-use mathlib.Core.Bool.{Bool, true, ◌&&◌, ◌||◌, and_true}
+use mathlib.Core.Bool.{Bool, true, ◌&&◌, ◌||◌, and-true}
 use mathlib.Core.List.{List}
 use mathlib.Core.Path.{refl, ap, ◌∙◌}
 use lib.Dec.{eqb}
@@ -45,6 +45,6 @@ module _ (s : Coordinator) (h : Shape s) (n : ℕ) (slot : n < jobs) (found : Li
     ticket = λ a. refl;
     count = refl;
     opened = λ i. refl;
-    dep = λ u a b l. led_into_lem s.dependencies h.dependencies (entry found) (λ k. true) n slot (entry_beyond sets) u a b l ∙ ap (λ (x : Bool). x && holds (entry found u) a || dep s u a b) (and_true (eqb b n));
+    dep = λ u a b l. led_into_lem s.dependencies h.dependencies (entry found) (λ k. true) n slot (entry_beyond sets) u a b l ∙ ap (λ (x : Bool). x && holds (entry found u) a || dep s u a b) (and-true (eqb b n));
     candidate = refl;
   }

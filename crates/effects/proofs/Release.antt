@@ -1,6 +1,6 @@
 -- A step released. Assumes nothing.
 use Prim.Native.Nat.{ℕ, ◌<◌}
-use mathlib.Core.Bool.{Bool, true, false, not, ◌&&◌, ◌||◌, and_true}
+use mathlib.Core.Bool.{Bool, true, false, not, ◌&&◌, ◌||◌, and-true}
 use mathlib.Core.Path.{◌≡◌, refl, ap, ◌∙◌}
 use borrow.Author.Tests.{eq-eqb}
 use lib.Dec.{eqb}
@@ -33,7 +33,7 @@ module _ (s : Coordinator) (h : Shape s) (j : ℕ) (slot : j < jobs) (k : ℕ) (
   waiting_are : (b : ℕ) → holds waiting b ≡ names s b k && not (eqb b j || released s b k)
   unfolding names in_mask released
   waiting_are b =
-      let own : eqb b j && eqb k k ≡ eqb b j = rw (eq-eqb k k refl) (and_true (eqb b j)) in
+      let own : eqb b j && eqb k k ≡ eqb b j = rw (eq-eqb k k refl) (and-true (eqb b j)) in
       holds_less_any jobs (entry s.named k) (entry (mark s.released k j) k) b (h.named.fits k) ((sized_mark h.released k j slot).fits k)
       ∙ ap (λ (x : Bool). names s b k && not x) (holds_mark h.released k j database b k ∙ ap (λ (x : Bool). x || released s b k) own)
 

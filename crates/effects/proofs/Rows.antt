@@ -2,7 +2,7 @@
 use Prim.Native.Nat.{ℕ, ◌+◌, ◌*◌, ◌^◌, ◌<◌, ◌≤◌}
 use native.Mathlib.Omega.{arith}
 use native.Mathlib.Decide.{dec_lt}
-use mathlib.Core.Bool.{Bool, true, false, ◌&&◌, ◌||◌, and_true, and_false, or_comm}
+use mathlib.Core.Bool.{Bool, true, false, ◌&&◌, ◌||◌, and-true, and-false, or_comm}
 use mathlib.Core.List.{List}
 use mathlib.Core.Path.{◌≡◌, refl, ap, ◌∙◌}
 use borrow.Author.Tests.{eqb-true, eqb-false}
@@ -16,7 +16,7 @@ use Rattle.coordinator.specs.Limits.{jobs, databases, steps}
 use Rattle.coordinator.specs.Shape.{Sized}
 use Rattle.coordinator.specs.Views.{entry}
 use Rattle.coordinator.specs.Change.{lead, lead_to}
-use Rattle.effects.proofs.Stores.{stores, stores_at, stores-off, stores_else, stores_sized}
+use Rattle.effects.proofs.Stores.{stores, stores_at, stores_off, stores_else, stores_sized}
 
 module _ (d : List ℕ) (h : Sized steps jobs d) where
   -- at database k, j goes before each of the set m
@@ -44,12 +44,12 @@ module _ (d : List ℕ) (h : Sized steps jobs d) where
 
       by : (t : Bool) → eqb u k ≡ t → (z : Bool) → holds m b ≡ z → holds (entry (lead_to k j m d) (u * jobs + b)) a ≡ t && eqb a j && z || holds old a
       by true e true y =
-          rw (eqb-true u k e, and_true (eqb a j))
+          rw (eqb-true u k e, and-true (eqb a j))
           (ap (λ (x : ℕ). holds x a) (stores_at f g (holds m) apart jobs b d c (omega (arith, h.size)) y)
           ∙ holds_or (entry d (k * jobs + b)) (2 ^ j) a
           ∙ or_comm (holds (entry d (k * jobs + b)) a) _
           ∙ ap (λ (z : Bool). z || holds (entry d (k * jobs + b)) a) (holds_one j a))
-      by true e false y = rw (eqb-true u k e, and_false (eqb a j)) (ap (λ (x : ℕ). holds x a) (stores-off f g (holds m) apart jobs b d y))
+      by true e false y = rw (eqb-true u k e, and-false (eqb a j)) (ap (λ (x : ℕ). holds x a) (stores_off f g (holds m) apart jobs b d y))
       by false e z y = ap (λ (x : ℕ). holds x a) (stores_else f g (holds m) jobs (u * jobs + b) d (λ i q p. let ne = eqb-false u k e in omega arith))
 
   -- at each database k that passes the test, the set R k goes before slot n
@@ -84,5 +84,5 @@ module _ (d : List ℕ) (h : Sized steps jobs d) where
         by true e true y (no l) =
             rw (end u (omega arith), holds_none a)
             (ap (λ (x : ℕ). holds x a) (stores_else f g p databases (u * jobs + b) d (λ i q z. omega arith)))
-        by true e false y l = rw (eqb-true b n e) (ap (λ (x : ℕ). holds x a) (stores-off f g p apart databases u d y))
+        by true e false y l = rw (eqb-true b n e) (ap (λ (x : ℕ). holds x a) (stores_off f g p apart databases u d y))
         by false e z y l = ap (λ (x : ℕ). holds x a) (stores_else f g p databases (u * jobs + b) d (λ i q w. let ne = eqb-false b n e in omega arith))

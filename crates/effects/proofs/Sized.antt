@@ -2,7 +2,7 @@
 use Prim.Native.Nat.{ℕ, ◌^◌, ◌<◌}
 use native.Mathlib.Omega.{arith}
 use native.Mathlib.Decide.{ℕ_discrete, dec_lt}
-use mathlib.Core.Bool.{Bool, true, false, ◌&&◌, ◌||◌, and_true, and_false}
+use mathlib.Core.Bool.{Bool, true, false, ◌&&◌, ◌||◌, and-true, and-false}
 use mathlib.Core.List.{List}
 use mathlib.Core.Path.{◌≡◌, refl, ◌∙◌}
 use borrow.Author.Tests.{eqb-true, eqb-false}
@@ -52,5 +52,5 @@ module _ {n w : ℕ} {l : List ℕ} (h : Sized n w l) where
     where
       by : (t : Bool) → eqb u k ≡ t → holds (entry (mark l k j) u) a ≡ eqb a j && t || holds (entry l u) a
       by true e =
-          rw (eqb-true u k e, and_true (eqb a j), get_or-set_same l k (including (entry l k) j) 0 (omega (arith, h.size))) (holds_including (entry l k) j a)
-      by false e = rw (and_false (eqb a j), get_or-set_other l k u (including (entry l k) j) 0 (eqb-false u k e))
+          rw (eqb-true u k e, and-true (eqb a j), get_or-set_same l k (including (entry l k) j) 0 (omega (arith, h.size))) (holds_including (entry l k) j a)
+      by false e = rw (and-false (eqb a j), get_or-set_other l k u (including (entry l k) j) 0 (eqb-false u k e))

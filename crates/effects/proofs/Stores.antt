@@ -60,10 +60,10 @@ module _ (f : ℕ → ℕ) (g : ℕ → ℕ → ℕ) where
           by (inl q) ih = here q
           by (inr m) ih = guard_rule (λ r. entry r (f i) ≡ g i (entry l (f i))) (p n) (store_at n) (stores n l) (λ z. get_or-set_other (stores n l) (f n) (f i) _ 0 (λ y. let w = apart i n y in omega arith) ∙ ih m) (λ z. ih m)
 
-      pub stores-off : (n i : ℕ) (l : List ℕ) → p i ≡ false → entry (stores n l) (f i) ≡ entry l (f i)
+      pub stores_off : (n i : ℕ) (l : List ℕ) → p i ≡ false → entry (stores n l) (f i) ≡ entry l (f i)
       unfolding over guard
-      stores-off zero i l e = refl
-      stores-off (suc n) i l e = by (ℕ_discrete i n) (stores-off n i l e)
+      stores_off zero i l e = refl
+      stores_off (suc n) i l e = by (ℕ_discrete i n) (stores_off n i l e)
         where
           by : Dec (i ≡ n) → entry (stores n l) (f i) ≡ entry l (f i) → entry (guard (p n) (store_at n) (stores n l)) (f i) ≡ entry l (f i)
           by (yes q) ih = let z : p n ≡ false = rw (← q) e in rw z ih

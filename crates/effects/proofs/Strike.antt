@@ -2,7 +2,7 @@
 use Prim.Native.Nat.{ℕ, ◌+◌, ◌*◌, ◌<◌}
 use native.Mathlib.Decide.{dec_lt}
 use native.Mathlib.Omega.{arith}
-use mathlib.Core.Bool.{Bool, true, false, not, ◌&&◌, and_false}
+use mathlib.Core.Bool.{Bool, true, false, not, ◌&&◌, and-false}
 use mathlib.Core.List.{List}
 use mathlib.Core.Path.{◌≡◌, refl, ap, sym, ◌∙◌}
 use borrow.Author.Tests.{eqb-true, eqb-false}
@@ -37,7 +37,7 @@ module _ {n w : ℕ} {l : List ℕ} (h : Sized n w l) (j : ℕ) where
         ap (λ (x : ℕ). holds x a) (stores_at (λ i. i) (λ i x. excluding x j) (λ i. true) (λ i k p. p) n u l b (omega (arith, h.size)) refl)
         ∙ holds_excluding (entry l u) j a
     | no b ↦
-        rw (entry_beyond h u (omega arith), holds_none a, and_false (not (eqb a j)))
+        rw (entry_beyond h u (omega arith), holds_none a, and-false (not (eqb a j)))
         (ap (λ (x : ℕ). holds x a) (entry_beyond strike_sized u (omega arith)) ∙ holds_none a)
   ]
 

@@ -76,7 +76,7 @@ module _ (v : View) (S : SoundView v) (j : ℕ) (o : v.is_open j ≡ true) where
     held_confirmed = λ a u e. by a u (or_cases (eqb a j) (v.held a) e);
     free_zeros = λ a e. let z = S.free_zeros a e in record {
       no_ticket_lem = z.no_ticket_lem;
-      not_held = untrue _ (λ q. not-this a e z.not_held (or_cases (eqb a j) (v.held a) q));
+      not_held = untrue _ (λ q. not_this a e z.not_held (or_cases (eqb a j) (v.held a) q));
       not_asked = z.not_asked;
       not_released = z.not_released;
       not_confirmed = z.not_confirmed;
@@ -87,9 +87,9 @@ module _ (v : View) (S : SoundView v) (j : ℕ) (o : v.is_open j ≡ true) where
       by a u (inl e) n = let q = eqb-true a j e in rw q (all u (rw q at n))
       by a u (inr e) n = S.held_confirmed a u e n
 
-      not-this : (a : ℕ) → v.is_open a ≡ false → v.held a ≡ false → (eqb a j ≡ true) ⊎ (v.held a ≡ true) → ⊥
-      not-this a e f (inl q) = both o (ap v.is_open (sym (eqb-true a j q)) ∙ e)
-      not-this a e f (inr q) = both q f
+      not_this : (a : ℕ) → v.is_open a ≡ false → v.held a ≡ false → (eqb a j ≡ true) ⊎ (v.held a ≡ true) → ⊥
+      not_this a e f (inl q) = both o (ap v.is_open (sym (eqb-true a j q)) ∙ e)
+      not_this a e f (inr q) = both q f
 
 module _ (s : Coordinator) (h : Shape s) (S : Sound s) where
   pub asked_sound : (j k : ℕ) → j < jobs → k < databases → names s j k ≡ true → Changed (mark_asked s j k) (asked_at (view s) j k)

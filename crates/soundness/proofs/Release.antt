@@ -10,7 +10,7 @@ use Rattle.coordinator.specs.declared.Coordinator.{Coordinator}
 use Rattle.coordinator.specs.Limits.{jobs, databases}
 use Rattle.coordinator.specs.Shape.{Shape}
 use Rattle.coordinator.specs.Sound.{Sound}
-use Rattle.coordinator.specs.Views.{names, asked, released}
+use Rattle.coordinator.specs.Views.{asked, released}
 use Rattle.coordinator.specs.Release.{release}
 use Rattle.effects.specs.View.{View, view}
 use Rattle.effects.specs.Effect.{released_at}

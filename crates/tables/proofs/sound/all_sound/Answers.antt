@@ -7,15 +7,15 @@ returns-then-held-slots-ne0 c = held_fails _ _ _ _ _ _ _ _ _ c.open_slots-slots.
 
 pub returns-then-not-tickets_sound : goal.returns-then-not-tickets_sound
 returns-then-not-tickets_sound c =
-    tickets_fail _ _ _ _ _ _ _ _ _ c.open_slots-slots.ensures c.if-held-slots-ne0.false (sym c.if-not-tickets_sound.ensures)
+    tickets_fail _ _ _ _ _ _ _ _ _ c.open_slots-slots.ensures c.if-held-slots-ne0.false (sym c.tickets_sound.ensures ∙ c.if-not-tickets_sound.true)
 
 pub returns-then-not-order_sound : goal.returns-then-not-order_sound
 returns-then-not-order_sound c =
-    order_fails _ _ _ _ _ _ _ _ _ c.open_slots-slots.ensures c.if-held-slots-ne0.false (sym c.if-not-tickets_sound.ensures)
-    (sym c.if-not-order_sound.ensures)
+    order_fails _ _ _ _ _ _ _ _ _ c.open_slots-slots.ensures c.if-held-slots-ne0.false (sym c.tickets_sound.ensures ∙ c.if-not-tickets_sound.false)
+    (sym c.order_sound.ensures ∙ c.if-not-order_sound.true)
 
 pub returns : goal.returns
 returns c =
     c.databases_sound.ensures
-    ∙ databases_decide _ _ _ _ _ _ _ _ _ c.open_slots-slots.ensures c.if-held-slots-ne0.false (sym c.if-not-tickets_sound.ensures)
-    (sym c.if-not-order_sound.ensures)
+    ∙ databases_decide _ _ _ _ _ _ _ _ _ c.open_slots-slots.ensures c.if-held-slots-ne0.false (sym c.tickets_sound.ensures ∙ c.if-not-tickets_sound.false)
+    (sym c.order_sound.ensures ∙ c.if-not-order_sound.false)

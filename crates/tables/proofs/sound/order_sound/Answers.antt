@@ -1,5 +1,5 @@
-use Rattle.std.proofs.Common.{◌≡◌, ◌<◌, true, false, arith, sym, ◌∙◌}
-use Rattle.loops.proofs.Turns.{every_none, every_on, every_fails, every_done}
+use Rattle.std.proofs.Common.{sym, ◌∙◌}
+use Rattle.loops.proofs.Turns.{every_none, every_on, every_fails}
 use Rattle.tables.specs.Limits.{jobs}
 use Rattle.tables.proofs.Testing.{place_at, place_below, listed_none, listed_more}
 use Rattle.tables.proofs.sound.order_sound.Goals as goal
@@ -17,7 +17,7 @@ overflow_shl-listed c = place_below _ _ _ _ (sym c.place_sound.ensures ∙ c.if-
 
 pub loop-i-preserved : goal.loop-i-preserved
 loop-i-preserved c = (
-    listed_more _ _ _ (place_below _ _ _ _ (sym c.place_sound.ensures ∙ c.if-not-place_sound.false)) c.loop-i.invariant.0,
-    every_on _ _ c.loop-i.invariant.1
-    (sym (place_at _ _ _ _ _ c.loop-i.invariant.0 c.size-n.ensures) ∙ sym c.place_sound.ensures ∙ c.if-not-place_sound.false)
+  listed_more _ _ _ (place_below _ _ _ _ (sym c.place_sound.ensures ∙ c.if-not-place_sound.false)) c.loop-i.invariant.0,
+  every_on _ _ c.loop-i.invariant.1
+      (sym (place_at _ _ _ _ _ c.loop-i.invariant.0 c.size-n.ensures) ∙ sym c.place_sound.ensures ∙ c.if-not-place_sound.false),
 )
