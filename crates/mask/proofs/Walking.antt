@@ -69,15 +69,15 @@ module _ {S : Type 0} (f : ℕ → S → S) where
     -- the turn of `while m != 0 { let w = lowest(m); t = f(w, t); m = rest(m); }`, where the walked set has n digits
 
     module _ (m w : ℕ) (t : S) (b : m₀ < 2 ^ n) (ne : ¬ (m ≡ 0)) (h : Left n m₀ s m t) (e : w ≡ lowest n m) where
-      pub left-lowest : Lowest n m w
-      left-lowest =
+      pub left_lowest : Lowest n m w
+      left_lowest =
           rw e (trailing_lowest n m (omega arith) ((below_iff n m).1 (λ j p. holds_below n m₀ j b (holds_of m₀ j (h.among j (digit_on m j p))))))
 
-      pub left-rest : (k : ℕ) (r : S) → k ≡ excluding m (lowest n m) → r ≡ f w t → Left n m₀ s k r
-      left-rest k r p q = left_turn m w t left-lowest h k r (rw e p) q
+      pub left_rest : (k : ℕ) (r : S) → k ≡ excluding m (lowest n m) → r ≡ f w t → Left n m₀ s k r
+      left_rest k r p q = left_turn m w t left_lowest h k r (rw e p) q
 
-      pub left-falls : (k : ℕ) → k ≡ excluding m (lowest n m) → k < m
-      left-falls k p = rw (p, ← e) (rest_falls left-lowest)
+      pub left_falls : (k : ℕ) → k ≡ excluding m (lowest n m) → k < m
+      left_falls k p = rw (p, ← e) (rest_falls left_lowest)
 
     pub left_done : (m : ℕ) (t : S) → m ≡ 0 → Left n m₀ s m t → t ≡ over_members n m₀ f s
     left_done m t z h = sym (over_members_none n t) ∙ rw z at h.same

@@ -106,8 +106,8 @@ module _ {named dependencies : List ℕ} {n v u : ℕ} (at : Standing named depe
     -- the search goes on from there, comes to r, and returns
 
     module _ {r : SoFar} (k : JobVisited named dependencies n w u next r) where
-      pub forward-on : Onward named dependencies n s (so_far r.ahead r.reached r.found (r.moves + 1))
-      forward-on = record {
+      pub forward_on : Onward named dependencies n s (so_far r.ahead r.reached r.found (r.moves + 1))
+      forward_on = record {
         ready = record {
           ahead_sets = k.onward.ready.ahead_sets;
           ahead_named = k.onward.ready.ahead_named;
@@ -132,8 +132,8 @@ module _ {named dependencies : List ℕ} {n v u : ℕ} (at : Standing named depe
           stood a b (inl e) = this a b (only a b e)
           stood a b (inr t) = inr t
 
-      pub forward-hit : Hit (graph named dependencies n) marks r.reached r.found v u w
-      forward-hit = record {
+      pub forward_hit : Hit (graph named dependencies n) marks r.reached r.found v u w
+      forward_hit = record {
         closes = λ e. absurd (old e);
         enters = λ ne. k.onward.reached w u (rw is (put_same marks s.reached w u h.reached_sets l.job at.database));
       }

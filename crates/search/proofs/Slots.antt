@@ -23,7 +23,7 @@ use Rattle.search.specs.Limits.{jobs}
 use Rattle.search.specs.Search.{graph}
 use Rattle.search.specs.Visit.{marks, SoFar, so_far, unmarked, Ready, Arrived, Standing, Onward, JobVisited, DatabaseVisited, Others}
 use Rattle.search.proofs.Onward.{hit_on, unmarked_le, onward_refl, onward_then}
-use Rattle.search.proofs.Moves.{put_in, closing_on, closing_hit, walk_on, next_ready, next_falls, forward-on, forward-hit}
+use Rattle.search.proofs.Moves.{put_in, closing_on, closing_hit, walk_on, next_ready, next_falls, forward_on, forward_hit}
 
 -- a slot to try: it names u, it is not v, and it is not reached through u
 pub record Fresh (named reached : List ℕ) (v u w : ℕ) : Type 0 where
@@ -90,12 +90,12 @@ module _ {named dependencies : List ℕ} {n v u : ℕ} {s t : SoFar} {m : ℕ} (
     -- the four ways that a turn can go
 
     module _ (st : Standing named dependencies n v u) where
-      pub turn-held : digit (get_or dependencies (u * jobs + w) 0) v ≡ 1 → Turned named dependencies n v u w t t
-      turn-held d = record { onward = onward_refl at.onward.ready; hit = λ l. both (holds_of (get_or dependencies (u * jobs + w) 0) v d) l.free }
+      pub turn_held : digit (get_or dependencies (u * jobs + w) 0) v ≡ 1 → Turned named dependencies n v u w t t
+      turn_held d = record { onward = onward_refl at.onward.ready; hit = λ l. both (holds_of (get_or dependencies (u * jobs + w) 0) v d) l.free }
 
       module _ (d : ¬ (digit (get_or dependencies (u * jobs + w) 0) v ≡ 1)) where
-        pub slot-link : Link (graph named dependencies n) u v w
-        slot-link = record {
+        pub slot_link : Link (graph named dependencies n) u v w
+        slot_link = record {
           job = low.within;
           database = st.database;
           leaves = st.names;
@@ -104,34 +104,34 @@ module _ {named dependencies : List ℕ} {n v u : ℕ} {s t : SoFar} {m : ℕ} (
           free = ne_eqb _ 1 d;
         }
 
-        pub turn-found : w ≡ n → digit (get_or t.found u 0) v ≡ 1 → Turned named dependencies n v u w t t
-        turn-found new f = record { onward = onward_refl at.onward.ready; hit = λ l. record { closes = λ q. holds_of (get_or t.found u 0) v f; enters = λ old. absurd (old new) } }
+        pub turn_found : w ≡ n → digit (get_or t.found u 0) v ≡ 1 → Turned named dependencies n v u w t t
+        turn_found new f = record { onward = onward_refl at.onward.ready; hit = λ l. record { closes = λ q. holds_of (get_or t.found u 0) v f; enters = λ old. absurd (old new) } }
 
-        pub turn-closes : w ≡ n → ¬ (digit (get_or t.found u 0) v ≡ 1) → Turned named dependencies n v u w t (so_far t.ahead t.reached (put_in t.found u v) (t.moves + 1))
-        turn-closes new f = record { onward = closing_on st at.onward.ready new slot-link f; hit = λ l. closing_hit st at.onward.ready new slot-link f }
+        pub turn_closes : w ≡ n → ¬ (digit (get_or t.found u 0) v ≡ 1) → Turned named dependencies n v u w t (so_far t.ahead t.reached (put_in t.found u v) (t.moves + 1))
+        turn_closes new f = record { onward = closing_on st at.onward.ready new slot_link f; hit = λ l. closing_hit st at.onward.ready new slot_link f }
 
         -- what the visit of w asks, and that fewer pairs are left to it
-        pub forward-asked : ¬ (w ≡ n) → (unmarked (put_in t.reached u w) < unmarked s.reached) × (w < jobs) × Arrived named dependencies n w u
+        pub forward_asked : ¬ (w ≡ n) → (unmarked (put_in t.reached u w) < unmarked s.reached) × (w < jobs) × Arrived named dependencies n w u
             × Ready named dependencies n (so_far t.ahead (put_in t.reached u w) t.found (t.moves + 1))
-        forward-asked old = (
-          lt_of_lt_of_le (next_falls st at.onward.ready old slot-link slot_fresh.absent) (unmarked_le at.onward),
+        forward_asked old = (
+          lt_of_lt_of_le (next_falls st at.onward.ready old slot_link slot_fresh.absent) (unmarked_le at.onward),
           low.within,
-          inr (walk_on st at.onward.ready old slot-link slot_fresh.absent),
-          next_ready st at.onward.ready old slot-link slot_fresh.absent,
+          inr (walk_on st at.onward.ready old slot_link slot_fresh.absent),
+          next_ready st at.onward.ready old slot_link slot_fresh.absent,
         )
 
-        pub turn-forward : ¬ (w ≡ n) → (r : SoFar) → JobVisited named dependencies n w u (so_far t.ahead (put_in t.reached u w) t.found (t.moves + 1)) r
+        pub turn_forward : ¬ (w ≡ n) → (r : SoFar) → JobVisited named dependencies n w u (so_far t.ahead (put_in t.reached u w) t.found (t.moves + 1)) r
             → Turned named dependencies n v u w t (so_far r.ahead r.reached r.found (r.moves + 1))
-        turn-forward old r k = record {
-          onward = forward-on st at.onward.ready old slot-link slot_fresh.absent k;
-          hit = λ l. forward-hit st at.onward.ready old slot-link slot_fresh.absent k;
+        turn_forward old r k = record {
+          onward = forward_on st at.onward.ready old slot_link slot_fresh.absent k;
+          hit = λ l. forward_hit st at.onward.ready old slot_link slot_fresh.absent k;
         }
 
     -- x is left of m without w
 
     module _ {x : ℕ} (p : x ≡ excluding m (lowest jobs m)) where
-      pub rest-less : x < m
-      rest-less = rw (p, ← e) (rest_falls low)
+      pub rest_less : x < m
+      rest_less = rw (p, ← e) (rest_falls low)
 
       kept : (j : ℕ) → holds x j ≡ not (eqb j w) && holds m j
       kept j = rw (p, ← e) (holds_excluding m w j)
@@ -140,9 +140,9 @@ module _ {named dependencies : List ℕ} {n v u : ℕ} {s t : SoFar} {m : ℕ} (
       kept_in j q = and_right (not (eqb j w)) (holds m j) (sym (kept j) ∙ q)
 
       -- what is left to try beside w, or made
-      kept-left : {r : SoFar} → Turned named dependencies n v u w t r → (j : ℕ) → Link (graph named dependencies n) u v j
+      kept_left : {r : SoFar} → Turned named dependencies n v u w t r → (j : ℕ) → Link (graph named dependencies n) u v j
           → (holds x j ≡ true) ⊎ Hit (graph named dependencies n) marks r.reached r.found v u j
-      kept-left {r} now j l = by (eqb j w) refl (at.left j l)
+      kept_left {r} now j l = by (eqb j w) refl (at.left j l)
         where
           by : (b : Bool) → eqb j w ≡ b → (holds m j ≡ true) ⊎ Hit (graph named dependencies n) marks t.reached t.found v u j
               → (holds x j ≡ true) ⊎ Hit (graph named dependencies n) marks r.reached r.found v u j
@@ -151,21 +151,21 @@ module _ {named dependencies : List ℕ} {n v u : ℕ} {s t : SoFar} {m : ℕ} (
           by false q (inl h) = inl (kept j ∙ rw (q, h))
 
       -- nothing more is reached
-      pub slots-rest : {r : SoFar} → r.reached ≡ t.reached → Turned named dependencies n v u w t r → AtSlots named dependencies n v u s r x
-      slots-rest same now = record {
+      pub slots_rest : {r : SoFar} → r.reached ≡ t.reached → Turned named dependencies n v u w t r → AtSlots named dependencies n v u s r x
+      slots_rest same now = record {
         onward = onward_then at.onward now.onward;
         below = rw p (excluding_lt jobs m (lowest jobs m) at.below);
         fresh = λ j q. rw same (at.fresh j (kept_in j q));
-        left = kept-left now;
+        left = kept_left now;
       }
 
       -- k is to try of x, once more is reached
-      pub slots-turn : {r : SoFar} {k : ℕ} → Others x (get_or r.reached u 0) v k → Turned named dependencies n v u w t r → AtSlots named dependencies n v u s r k
-      slots-turn {r} {k} o now = record {
+      pub slots_turn : {r : SoFar} {k : ℕ} → Others x (get_or r.reached u 0) v k → Turned named dependencies n v u w t r → AtSlots named dependencies n v u s r k
+      slots_turn {r} {k} o now = record {
         onward = onward_then at.onward now.onward;
         below = o.below;
         fresh = λ j q. record { names = (at.fresh j (kept_in j (of_all o j q))).names; differs = not_own o j q; absent = unreached o j q };
-        left = λ j l. by j l (kept-left now j l);
+        left = λ j l. by j l (kept_left now j l);
       }
         where
           by : (j : ℕ) → Link (graph named dependencies n) u v j → (holds x j ≡ true) ⊎ Hit (graph named dependencies n) marks r.reached r.found v u j
@@ -173,8 +173,8 @@ module _ {named dependencies : List ℕ} {n v u : ℕ} {s t : SoFar} {m : ℕ} (
           by j l (inl h) = try_or_hit now.onward.ready o j l.job l.differ h
           by j l (inr h) = inr h
 
-      pub others-less : {y z : ℕ} → Others x y v z → z < m
-      others-less o = lt_of_le_of_lt o.most rest-less
+      pub others_less : {y z : ℕ} → Others x y v z → z < m
+      others_less o = lt_of_le_of_lt o.most rest_less
 
   pub slots_done : m ≡ 0 → DatabaseVisited named dependencies n v u s t
   slots_done z = record { onward = at.onward; through = record { hits = λ w l. by w (at.left w l) } }

@@ -131,8 +131,8 @@ module _ (tickets : List ℕ) (slots : ℕ) where
 
   module _ (small : slots < 2 ^ jobs) where
     module _ (seen m w : ℕ) (met : Met seen m) where
-      pub met-lowest : ¬ (m ≡ 0) → w ≡ lowest jobs m → Lowest jobs m w
-      met-lowest ne e = rw e (trailing_lowest jobs m (omega arith) ((below_iff jobs m).1 (λ j p. holds_below jobs slots j small (met.among j p))))
+      pub met_lowest : ¬ (m ≡ 0) → w ≡ lowest jobs m → Lowest jobs m w
+      met_lowest ne e = rw e (trailing_lowest jobs m (omega arith) ((below_iff jobs m).1 (λ j p. holds_below jobs slots j small (met.among j p))))
 
       module _ (l : Lowest jobs m w) (new : new_ticket tickets slots seen w ≡ true) where
         -- none of those met has the ticket of w
@@ -162,8 +162,8 @@ module _ (tickets : List ℕ) (slots : ℕ) where
             by true p = inl (eqb-true a w p)
             by false p = inr (sym (rw p at (holds_excluding m w a)) ∙ e)
 
-        met-turn : Met (bit_or seen (2 ^ (entry tickets w % 64))) (excluding m w)
-        met-turn = record {
+        met_turn : Met (bit_or seen (2 ^ (entry tickets w % 64))) (excluding m w)
+        met_turn = record {
           among = λ j e. met.among j (and_right (not (eqb j w)) (holds m j) (sym (holds_excluding m w j) ∙ e));
           noted = λ j p f. holds_or seen (2 ^ (entry tickets w % 64)) (entry tickets j % 64) ∙ note j p (before j f);
           differ = λ a b p f q g t. pair a b p q t (before a f) (before b g);
@@ -183,16 +183,16 @@ module _ (tickets : List ℕ) (slots : ℕ) where
             pair a b p q t (inr e) (inl f) = apart a p e (t ∙ ap (λ (i : ℕ). entry tickets i) f) ∙ sym f
             pair a b p q t (inr e) (inr f) = met.differ a b p e q f t
 
-      pub met-own : (ne : ¬ (m ≡ 0)) (e : w ≡ lowest jobs m) → new_ticket tickets slots seen w ≡ false → own_ticket tickets slots w ≡ false
-      met-own ne e f = not_own seen w (met.among w (lowest_holds (met-lowest ne e))) f
+      pub met_own : (ne : ¬ (m ≡ 0)) (e : w ≡ lowest jobs m) → new_ticket tickets slots seen w ≡ false → own_ticket tickets slots w ≡ false
+      met_own ne e f = not_own seen w (met.among w (lowest_holds (met_lowest ne e))) f
 
-      pub met-again : (k : ℕ) (ne : ¬ (m ≡ 0)) (e : w ≡ lowest jobs m) → new_ticket tickets slots seen w ≡ true → k ≡ excluding m (lowest jobs m)
+      pub met_again : (k : ℕ) (ne : ¬ (m ≡ 0)) (e : w ≡ lowest jobs m) → new_ticket tickets slots seen w ≡ true → k ≡ excluding m (lowest jobs m)
           → Met (bit_or seen (1 * 2 ^ (entry tickets w % 64) % 2 ^ 64)) k
-      met-again k ne e new p =
-          rw (one_shl 64 (entry tickets w % 64) (mod-lt (entry tickets w) (lit< tt)), p, ← e) (met-turn (met-lowest ne e) new)
+      met_again k ne e new p =
+          rw (one_shl 64 (entry tickets w % 64) (mod-lt (entry tickets w) (lit< tt)), p, ← e) (met_turn (met_lowest ne e) new)
 
-      pub met-falls : (k : ℕ) (ne : ¬ (m ≡ 0)) (e : w ≡ lowest jobs m) → k ≡ excluding m (lowest jobs m) → k < m
-      met-falls k ne e p = rw (p, ← e) (rest_falls (met-lowest ne e))
+      pub met_falls : (k : ℕ) (ne : ¬ (m ≡ 0)) (e : w ≡ lowest jobs m) → k ≡ excluding m (lowest jobs m) → k < m
+      met_falls k ne e p = rw (p, ← e) (rest_falls (met_lowest ne e))
 
     pub met_all : (seen m : ℕ) → m ≡ 0 → Met seen m → true ≡ every jobs (own_ticket tickets slots)
     met_all seen m z met = sym (every_of jobs _ (λ j l. at j (holds slots j) refl))

@@ -1,6 +1,6 @@
 use Rattle.std.proofs.Common.{refl, arith}
 use Rattle.search.proofs.Onward.{room, unmarked_le}
-use Rattle.search.proofs.Slots.{slots_start, turn-held, turn-found, turn-closes, forward-asked, turn-forward, rest-less, others-less, slots-rest, slots-turn, slots_done}
+use Rattle.search.proofs.Slots.{slots_start, turn_held, turn_found, turn_closes, forward_asked, turn_forward, rest_less, others_less, slots_rest, slots_turn, slots_done}
 use Rattle.search.proofs.Databases.{databases_start, taken_below, taking_ready, taken_standing, databases_done, database_taken, databases_fall, databases_turn}
 use Rattle.search.proofs.+visit_database_visit_job.Goals as goal
 
@@ -15,22 +15,22 @@ visit_database-overflow_add-t t c = record { fits = room c.loop-m.invariant.onwa
 -- the new job, and the dependency is found now
 pub visit_database-loop-m-smaller-then-x-v-ne1 : goal.visit_database-loop-m-smaller-then-x-v-ne1
 visit_database-loop-m-smaller-then-x-v-ne1 t c =
-    rest-less c.loop-m.invariant c.loop-m-test.true c.lowest-low.ensures c.rest-m.ensures
+    rest_less c.loop-m.invariant c.loop-m-test.true c.lowest-low.ensures c.rest-m.ensures
 
 pub visit_database-loop-m-preserved-then-x-v-ne1 : goal.visit_database-loop-m-preserved-then-x-v-ne1
 visit_database-loop-m-preserved-then-x-v-ne1 t c =
-    slots-rest c.loop-m.invariant c.loop-m-test.true c.lowest-low.ensures c.rest-m.ensures refl
-    (turn-closes c.loop-m.invariant c.loop-m-test.true c.lowest-low.ensures c.requires.1 c.if-dependencies-at-ne1.true c.if-w-n.true c.if-x-v-ne1.true)
+    slots_rest c.loop-m.invariant c.loop-m-test.true c.lowest-low.ensures c.rest-m.ensures refl
+    (turn_closes c.loop-m.invariant c.loop-m-test.true c.lowest-low.ensures c.requires.1 c.if-dependencies-at-ne1.true c.if-w-n.true c.if-x-v-ne1.true)
 
 -- the new job, and the dependency is found already
 pub visit_database-loop-m-smaller-else-x-v-ne1 : goal.visit_database-loop-m-smaller-else-x-v-ne1
 visit_database-loop-m-smaller-else-x-v-ne1 t c =
-    rest-less c.loop-m.invariant c.loop-m-test.true c.lowest-low.ensures c.rest-m.ensures
+    rest_less c.loop-m.invariant c.loop-m-test.true c.lowest-low.ensures c.rest-m.ensures
 
 pub visit_database-loop-m-preserved-else-x-v-ne1 : goal.visit_database-loop-m-preserved-else-x-v-ne1
 visit_database-loop-m-preserved-else-x-v-ne1 t c =
-    slots-rest c.loop-m.invariant c.loop-m-test.true c.lowest-low.ensures c.rest-m.ensures refl
-    (turn-found c.loop-m.invariant c.loop-m-test.true c.lowest-low.ensures c.requires.1 c.if-dependencies-at-ne1.true c.if-w-n.true c.if-x-v-ne1.false)
+    slots_rest c.loop-m.invariant c.loop-m-test.true c.lowest-low.ensures c.rest-m.ensures refl
+    (turn_found c.loop-m.invariant c.loop-m-test.true c.lowest-low.ensures c.requires.1 c.if-dependencies-at-ne1.true c.if-w-n.true c.if-x-v-ne1.false)
 
 -- another job: it is visited
 pub visit_database-overflow_add-t-else-w-n : goal.visit_database-overflow_add-t-else-w-n
@@ -38,7 +38,7 @@ visit_database-overflow_add-t-else-w-n t c = record { fits = room c.loop-m.invar
 
 pub visit_database-visit_job-t-requires : goal.visit_database-visit_job-t-requires
 visit_database-visit_job-t-requires t c =
-    let asked = forward-asked c.loop-m.invariant c.loop-m-test.true c.lowest-low.ensures c.requires.1 c.if-dependencies-at-ne1.true c.if-w-n.false in
+    let asked = forward_asked c.loop-m.invariant c.loop-m-test.true c.lowest-low.ensures c.requires.1 c.if-dependencies-at-ne1.true c.if-w-n.false in
     (omega (arith, asked.0, c.decreases), (c.requires.0, asked.1, asked.2, asked.3))
 
 pub visit_database-overflow_add-t-else-w-n-2 : goal.visit_database-overflow_add-t-else-w-n-2
@@ -46,22 +46,22 @@ visit_database-overflow_add-t-else-w-n-2 t c = record { fits = room c.visit_job-
 
 pub visit_database-loop-m-smaller-else-w-n : goal.visit_database-loop-m-smaller-else-w-n
 visit_database-loop-m-smaller-else-w-n t c =
-    others-less c.loop-m.invariant c.loop-m-test.true c.lowest-low.ensures c.rest-m.ensures c.others-m-else-w-n.ensures
+    others_less c.loop-m.invariant c.loop-m-test.true c.lowest-low.ensures c.rest-m.ensures c.others-m-else-w-n.ensures
 
 pub visit_database-loop-m-preserved-else-w-n : goal.visit_database-loop-m-preserved-else-w-n
 visit_database-loop-m-preserved-else-w-n t c =
-    slots-turn c.loop-m.invariant c.loop-m-test.true c.lowest-low.ensures c.rest-m.ensures c.others-m-else-w-n.ensures
-    (turn-forward c.loop-m.invariant c.loop-m-test.true c.lowest-low.ensures c.requires.1 c.if-dependencies-at-ne1.true c.if-w-n.false _ c.visit_job-t.ensures)
+    slots_turn c.loop-m.invariant c.loop-m-test.true c.lowest-low.ensures c.rest-m.ensures c.others-m-else-w-n.ensures
+    (turn_forward c.loop-m.invariant c.loop-m-test.true c.lowest-low.ensures c.requires.1 c.if-dependencies-at-ne1.true c.if-w-n.false _ c.visit_job-t.ensures)
 
 -- v goes after w
 pub visit_database-loop-m-smaller : goal.visit_database-loop-m-smaller
 visit_database-loop-m-smaller t c =
-    rest-less c.loop-m.invariant c.loop-m-test.true c.lowest-low.ensures c.rest-m.ensures
+    rest_less c.loop-m.invariant c.loop-m-test.true c.lowest-low.ensures c.rest-m.ensures
 
 pub visit_database-loop-m-preserved : goal.visit_database-loop-m-preserved
 visit_database-loop-m-preserved t c =
-    slots-rest c.loop-m.invariant c.loop-m-test.true c.lowest-low.ensures c.rest-m.ensures refl
-    (turn-held c.loop-m.invariant c.loop-m-test.true c.lowest-low.ensures c.requires.1 c.if-dependencies-at-ne1.false)
+    slots_rest c.loop-m.invariant c.loop-m-test.true c.lowest-low.ensures c.rest-m.ensures refl
+    (turn_held c.loop-m.invariant c.loop-m-test.true c.lowest-low.ensures c.requires.1 c.if-dependencies-at-ne1.false)
 
 pub visit_database-returns : goal.visit_database-returns
 visit_database-returns t c = slots_done c.loop-m.invariant c.loop-m-test.false
