@@ -16,18 +16,23 @@ loop-i-init c =
     let f : (i : ℕ) → Fits w32 (get_or c.args.s.confirmed i 0) = λ i. search rules in
     let d : (i : ℕ) → Fits w32 (get_or c.args.s.dependencies i 0) = λ i. search rules in
     let h : Fits w32 c.args.s.held = search rules in
-    let m : Fits w16 c.args.s.maker.next = search rules in
-    (going_start _ _ _, (c.is_sound-tested.ensures, record {
-      tickets = record { size = search rules; fits = λ i. (t i).fits };
-      held = h.fits;
-      order = record { size = search rules; fits = λ i. (o i).fits };
-      named = record { size = search rules; fits = λ i. (n i).fits };
-      asked = record { size = search rules; fits = λ i. (a i).fits };
-      released = record { size = search rules; fits = λ i. (r i).fits };
-      confirmed = record { size = search rules; fits = λ i. (f i).fits };
-      dependencies = record { size = search rules; fits = λ i. (d i).fits };
-      candidate = m.fits;
-    }))
+    let m : Fits w16 c.args.s.maker.next = search rules in (
+      going_start _ _ _,
+      (
+        c.is_sound-tested.ensures,
+        record {
+          tickets = record { size = search rules; fits = λ i. (t i).fits };
+          held = h.fits;
+          order = record { size = search rules; fits = λ i. (o i).fits };
+          named = record { size = search rules; fits = λ i. (n i).fits };
+          asked = record { size = search rules; fits = λ i. (a i).fits };
+          released = record { size = search rules; fits = λ i. (r i).fits };
+          confirmed = record { size = search rules; fits = λ i. (f i).fits };
+          dependencies = record { size = search rules; fits = λ i. (d i).fits };
+          candidate = m.fits;
+        },
+      ),
+    )
 
 pub loop-i-preserved : goal.loop-i-preserved
 loop-i-preserved c =
