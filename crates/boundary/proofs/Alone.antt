@@ -1,13 +1,11 @@
 -- A call written as a record is read as that call. Assumes nothing.
-use Prim.Native.Nat.{ℕ, ◌+◌, ◌*◌, ◌^◌, ◌<◌}
-use mathlib.Core.Path.{◌≡◌, refl, ap, ◌∙◌}
-use mathlib.Core.List.{List, [], ◌∷◌, ◌++◌}
-use mathlib.Core.Option.{Option}
+use Prim.Native.Nat.{ℕ, ◌^◌, ◌<◌}
+use mathlib.Core.Path.{◌≡◌, refl, ap}
+use mathlib.Core.List.{List, []}
 use native.Mathlib.Omega.{arith}
-use lib.ListN.{length, get_or, drop, set, replicate}
-use Rattle.coordinator.specs.Call.{Call}
+use lib.ListN.{length, set, replicate}
 use Rattle.layout.specs.Put.{put}
-use Rattle.layout.specs.Bytes.{bytes_of, number_at}
+use Rattle.layout.specs.Bytes.{bytes_of}
 use Rattle.layout.proofs.Back.{number_there}
 use Rattle.record.specs.Record.{call_of}
 use Rattle.boundary.specs.Records.{record_at}

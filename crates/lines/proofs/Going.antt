@@ -9,11 +9,10 @@ use lib.Seq.{drop-cons}
 use Rattle.coordinator.specs.declared.Coordinator.{Coordinator}
 use Rattle.layout.specs.Put.{put, Counts}
 use Rattle.layout.proofs.Put.{put_none, put_put, length_put, counts}
-use Rattle.lines.specs.declared.Played.{Played}
 use Rattle.record.specs.Record.{call_of}
 use Rattle.lines.specs.Record.{two_bytes}
 use Rattle.lines.specs.Answered.{Answered, answered}
-use Rattle.lines.specs.Line.{line, longest}
+use Rattle.lines.specs.Line.{longest}
 use Rattle.lines.specs.Lines.{answer, line_of, left_over, lines_of, state_after, lines_in}
 use Rattle.lines.specs.Playing.{Playing, all}
 

@@ -13,7 +13,7 @@ use Rattle.record.specs.Answer.{numbers_of, answer}
 use Rattle.record.specs.Tested.{Plays}
 use Rattle.lines.specs.declared.said.Said.{Said}
 use Rattle.lines.specs.Said.{said_of}
-use Rattle.lines.specs.Answered.{Answered, beside, told, answered}
+use Rattle.lines.specs.Answered.{beside, told, answered}
 
 module _ (s : Coordinator) (kind database value : ℕ) where
   told_is : beside (answer s (call_of kind database value)).state (said_of kind (numbers_of (answer s (call_of kind database value)).values)) ≡ answered s (call_of kind database value)

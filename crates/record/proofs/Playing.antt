@@ -20,7 +20,7 @@ use Rattle.coordinator.specs.Open.{after_open_tested}
 use Rattle.coordinator.specs.Ask.{after_ask_tested}
 use Rattle.coordinator.specs.Confirm.{after_confirm_tested}
 use Rattle.coordinator.specs.Close.{after_close_tested}
-use Rattle.coordinator.specs.Answer.{Values, refused, open_values, ask_values, confirm_values, close_values}
+use Rattle.coordinator.specs.Answer.{refused, open_values, ask_values, confirm_values, close_values}
 use Rattle.coordinator.specs.Call.{Call, open_job, ask_step, confirm_step, close_job, Played, play}
 use Rattle.coordinator.proofs.Tested.{open_is, ask_is, confirm_is, close_is}
 use Rattle.record.specs.declared.answer.Numbers.{Numbers}

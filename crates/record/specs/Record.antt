@@ -1,5 +1,5 @@
 -- A record of four bytes as a call. Assumes nothing: these are definitions.
-use Rattle.std.specs.Prelude.{ℕ, Bool, true, false, eqb}
+use Rattle.std.specs.Prelude.{ℕ, true, false, eqb}
 use Rattle.std.proofs.Math.Option.{Option, none, some}
 use Rattle.coordinator.specs.Call.{Call, open_job, ask_step, confirm_step, close_job}
 

@@ -1,4 +1,4 @@
-use Rattle.std.proofs.Common.{ℕ, ◌-◌, length}
+use Rattle.std.proofs.Common.{◌-◌, length}
 use Rattle.coordinator.specs.State.{state_of}
 use Rattle.record.proofs.Stays.{Known}
 use Rattle.lines.proofs.Going.{Going}

@@ -2,7 +2,6 @@ use Rattle.std.proofs.Common.{refl, arith}
 use Rattle.loops.specs.Table.{table}
 use Rattle.layout.specs.Bytes.{numbers_at}
 use Rattle.layout.proofs.Numbers.{read_turn, read_done}
-use Rattle.layout.proofs.Number.{byte_there}
 use Rattle.boundary.proofs.arrays.get_fours.Goals as goal
 
 pub loop-i-init : goal.loop-i-init

@@ -1,4 +1,4 @@
-use Rattle.std.proofs.Common.{refl, arith}
+use Rattle.std.proofs.Common.{arith}
 use Rattle.layout.proofs.Numbers.{write_none, write_turn, write_done}
 use Rattle.boundary.proofs.arrays.put_twos.Goals as goal
 
