@@ -2,15 +2,13 @@
 .PHONY: play test host
 
 play:
-	@rt check records >&2
-	@target/bin/records
+	@cd crates/records && rt run
 
 test: host
-	rt fmt --check
-	rt ci
+	tools/gate
 
-# The proved library and program against the independent implementation.
+# The proved library and program against the independent implementation. Run on nothing, the program is built.
 host:
-	rt staticlib boundary
-	rt check records
-	HOST_LIB=$(CURDIR)/target/staticlib RECORDS=$(CURDIR)/target/bin/records host/test.sh
+	cd crates/boundary && rt lib
+	cd crates/records && rt run </dev/null
+	HOST_LIB=$(CURDIR)/crates/boundary/out RECORDS=$(CURDIR)/crates/records/out/records host/test.sh

@@ -5,6 +5,9 @@
 set -eu
 cd "$(dirname "$0")"
 
+cmp ../samples/first.records ../crates/records/stdin
+cmp ../samples/first.lines ../crates/records/stdout
+
 cargo test --offline --release --quiet
 cargo build --offline --release --quiet
 make --silent

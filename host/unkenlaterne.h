@@ -1,5 +1,5 @@
-/* The proved coordinator for C. Link libboundary.a, which `rt staticlib boundary`
-   writes to target/staticlib.
+/* The proved coordinator for C. Link libboundary.a, which `rt lib`, run in
+   crates/boundary, writes to its folder out.
 
    Nothing is kept between calls: the state is 2,406 bytes that the caller holds,
    and a call reads it and writes the next one over it. Every 2,406 bytes may be

@@ -8,6 +8,7 @@ ghost use Rattle.refusals.specs.Refusal.{number_of, slot_refusal, step_refusal, 
 use numbers::{Database, Slot};
 
 // Of open.
+#[tactic(auto, unfolding(crate::specs::Refusal::slot_refusal, crate::specs::Refusal::first_row))]
 pub fn of_open(sound: bool, mask: u16, slots: u32) -> u8
     ensures { result ≡ number_of (slot_refusal sound mask (size jobs slots)) }
 {
@@ -26,6 +27,7 @@ pub fn of_open(sound: bool, mask: u16, slots: u32) -> u8
 }
 
 // Of ask and confirm. `found` are the slots that hold the ticket, `names` says whether the job names database k; the last row is the call's own.
+#[tactic(auto, unfolding(crate::specs::Refusal::step_refusal, crate::specs::Refusal::first_row))]
 pub fn of_step(sound: bool, found: u32, k: Database, names: bool, applies: bool, number: u8) -> u8
     ensures { result ≡ number_of (step_refusal sound found k.0 names applies number) }
 {
@@ -48,6 +50,7 @@ pub fn of_step(sound: bool, found: u32, k: Database, names: bool, applies: bool,
 }
 
 // Of close. `confirmed` says whether every step of the job is, `held` whether its close is.
+#[tactic(auto, unfolding(crate::specs::Refusal::job_refusal, crate::specs::Refusal::first_row))]
 pub fn of_close(sound: bool, found: u32, confirmed: bool, held: bool) -> u8
     ensures { result ≡ number_of (job_refusal sound found confirmed held) }
 {

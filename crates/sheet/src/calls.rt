@@ -3,82 +3,94 @@ use crate::say;
 use coordinator::Coordinator;
 use coordinator::answers::{AskAnswer, CloseAnswer, ConfirmAnswer, OpenAnswer};
 use numbers::{Database, Ticket};
+use std::io;
 
-fn refused(n: u8) {
-    say::text(b" refused");
-    say::number(n as u32);
+fn refused(rt: &impl Print, n: u8) -> io::Result<()> {
+    say::text(rt, b" refused")?;
+    say::number(rt, n as u32)
 }
 
-pub(crate) fn open(s: Coordinator, mask: u16) -> Coordinator {
+pub(crate) fn open(rt: &impl Print, s: Coordinator, mask: u16) -> io::Result<Coordinator> {
     let r = s.open(mask);
     let answer = r.answer;
     match answer {
-        OpenAnswer::Refused(n) => refused(n),
+        OpenAnswer::Refused(n) => refused(rt, n)?,
         OpenAnswer::Opened {
             ticket,
             added,
             moves,
         } => {
-            say::text(b" opened");
-            say::number(ticket.0 as u32);
-            say::number(added);
-            say::number(moves);
+            say::text(rt, b" opened")?;
+            say::number(rt, ticket.0 as u32)?;
+            say::number(rt, added)?;
+            say::number(rt, moves)?;
         }
     }
     let after = r.state;
-    after
+    Ok(after)
 }
 
-pub(crate) fn ask(s: Coordinator, ticket: u16, database: u8) -> Coordinator {
+pub(crate) fn ask(
+    rt: &impl Print,
+    s: Coordinator,
+    ticket: u16,
+    database: u8,
+) -> io::Result<Coordinator> {
     let r = s.ask(Ticket(ticket), Database(database));
     let answer = r.answer;
     match answer {
-        AskAnswer::Refused(n) => refused(n),
-        AskAnswer::Released => say::text(b" released"),
-        AskAnswer::Held => say::text(b" held"),
+        AskAnswer::Refused(n) => refused(rt, n)?,
+        AskAnswer::Released => say::text(rt, b" released")?,
+        AskAnswer::Held => say::text(rt, b" held")?,
     }
     let after = r.state;
-    after
+    Ok(after)
 }
 
-pub(crate) fn confirm(s: Coordinator, ticket: u16, database: u8) -> Coordinator {
+pub(crate) fn confirm(
+    rt: &impl Print,
+    s: Coordinator,
+    ticket: u16,
+    database: u8,
+) -> io::Result<Coordinator> {
     let r = s.confirm(Ticket(ticket), Database(database));
     let answer = r.answer;
     match answer {
-        ConfirmAnswer::Refused(n) => refused(n),
+        ConfirmAnswer::Refused(n) => refused(rt, n)?,
         ConfirmAnswer::Released(t) => {
-            say::text(b" releases");
-            say::number(t.0 as u32);
+            say::text(rt, b" releases")?;
+            say::number(rt, t.0 as u32)?;
         }
-        ConfirmAnswer::Nothing => say::text(b" confirmed"),
+        ConfirmAnswer::Nothing => say::text(rt, b" confirmed")?,
     }
     let after = r.state;
-    after
+    Ok(after)
 }
 
-pub(crate) fn close(s: Coordinator, ticket: u16) -> Coordinator {
+pub(crate) fn close(rt: &impl Print, s: Coordinator, ticket: u16) -> io::Result<Coordinator> {
     let r = s.close(Ticket(ticket));
     let answer = r.answer;
     let tickets = r.tickets;
     match answer {
-        CloseAnswer::Refused(n) => refused(n),
-        CloseAnswer::Held => say::text(b" held"),
+        CloseAnswer::Refused(n) => refused(rt, n)?,
+        CloseAnswer::Held => say::text(rt, b" held")?,
         CloseAnswer::Closed(n) => {
-            say::text(b" closes");
-            closed(&tickets, n);
+            say::text(rt, b" closes")?;
+            closed(rt, &tickets, n)?;
         }
     }
     let after = r.state;
-    after
+    Ok(after)
 }
 
 // The first n of the tickets.
-fn closed(tickets: &[u16; Coordinator::JOBS], n: u32) {
+fn closed(rt: &impl Print, tickets: &[u16; Coordinator::JOBS], n: u32) -> io::Result<()> {
     for i in 0..Coordinator::JOBS {
         if (i as u32) < n {
-            say::ticket(tickets[i]);
+            say::ticket(rt, tickets[i])?;
         }
     }
+    Ok(())
 }
 
 fn quiet(s: Coordinator) -> Coordinator {

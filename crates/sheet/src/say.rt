@@ -1,29 +1,30 @@
 // What is printed.
+use std::io;
 
-pub(crate) fn text(t: &[u8]) {
-    let is_written = io::write_all(1, t);
+pub(crate) fn text(rt: &impl Print, t: &[u8]) -> io::Result<()> {
+    rt.write_all(t)
 }
 
-pub(crate) fn number(n: u32) {
-    text(b" ");
-    let is_written = io::print_decimal(1, n as u64);
+pub(crate) fn number(rt: &impl Print, n: u32) -> io::Result<()> {
+    text(rt, b" ")?;
+    rt.print(n)
 }
 
-pub(crate) fn ticket(t: u16) {
-    number(t as u32);
+pub(crate) fn ticket(rt: &impl Print, t: u16) -> io::Result<()> {
+    number(rt, t as u32)
 }
 
 // A line of the sheet begins.
-pub(crate) fn line(n: u32) {
+pub(crate) fn line(rt: &impl Print, n: u32) -> io::Result<()> {
     if n != 1 {
-        text(b"\n");
+        text(rt, b"\n")?;
     }
-    let is_written = io::print_decimal(1, n as u64);
-    text(b":");
+    rt.print(n)?;
+    text(rt, b":")
 }
 
 // The next candidate, at the end of a run.
-pub(crate) fn end(next: u16) {
-    text(b" next");
-    number(next as u32);
+pub(crate) fn end(rt: &impl Print, next: u16) -> io::Result<()> {
+    text(rt, b" next")?;
+    number(rt, next as u32)
 }

@@ -5,7 +5,6 @@ use native.Mathlib.Omega.{arith}
 use mathlib.Core.Bool.{Bool, true}
 use mathlib.Core.Logic.{◌↔◌}
 use mathlib.Core.Path.{◌≡◌}
-use Rattle.loops.specs.Sum.{tally}
 use Rattle.loops.proofs.Tests.{same_test}
 use Rattle.loops.proofs.Sums.{pairs_same}
 use Rattle.walks.specs.Walk.{Graph, Reach, first, next, WalkEnd, named}

@@ -40,7 +40,7 @@ module _ (G : Graph) (K : Marks G.jobs G.databases) where
   pub inv_new : InvOf (at_new G K)
   unfolding at_new
   inv_new = record {
-    good = (K.Good-none, K.Good-none);
+    good = (K.good_none, K.good_none);
     trail = begin refl refl;
     walks = λ w u e. both e (K.has_none w u);
     ends = λ v u e. both e (K.has_none v u);

@@ -32,7 +32,7 @@ module _ (G : Graph) (K : Marks G.jobs G.databases) where
 
     search_next : Next G K (Come G G.new G.databases) (fresh K) (opening_search G K f) × Done G K R F G.new G.databases
     unfolding fresh opening_search
-    search_next = visit_next G K f G.new G.databases new (fresh K) ((K.Good-none, K.Good-none), omega arith)
+    search_next = visit_next G K f G.new G.databases new (fresh K) ((K.good_none, K.good_none), omega arith)
 
     sound_end : Sound G K R F
     sound_end = search_next.0.sound (inl refl) sound_fresh
@@ -47,7 +47,7 @@ module _ (G : Graph) (K : Marks G.jobs G.databases) where
 
     pub search_good : Good G K (opening_search G K f)
     unfolding fresh
-    search_good = search_next.0.good (K.Good-none, K.Good-none)
+    search_good = search_next.0.good (K.good_none, K.good_none)
 
     pub search_engine : Engine G (K.has (opening_search G K f).reached) (K.has (opening_search G K f).found) (opening_search G K f).moves
     unfolding fresh

@@ -1,0 +1,13 @@
+use Rattle.std.proofs.Common.{refl, arith}
+use Rattle.layout.proofs.Numbers.{write_none, write_turn, write_done}
+use Rattle.boundary.proofs.arrays.put_bytes.Goals as goal
+
+pub loop-i-init : goal.loop-i-init
+loop-i-init c = write_none 1 _ _ _ (omega arith)
+
+pub loop-i-preserved : goal.loop-i-preserved
+loop-i-preserved c =
+    write_turn 1 _ _ _ _ _ _ _ _ c.loop-i.invariant (omega arith) (omega arith) refl c.put_byte.ensures
+
+pub returns : goal.returns
+returns c = write_done 1 _ _ _ _ _ _ (omega arith) c.loop-i-test.false c.loop-i.invariant
