@@ -1,0 +1,20 @@
+use Rattle.mask.proofs.Walking.{left_start, left-lowest, left-rest, left-falls, left_done}
+use Rattle.coordinator.specs.Limits.{databases}
+use Rattle.coordinator.proofs.enter.name_databases.Goals as goal
+
+pub loop-left-init : goal.loop-left-init
+loop-left-init c = left_start _ _ _ _
+
+pub mark-requires : goal.mark-requires
+mark-requires c =
+    ((left-lowest _ databases _ _ _ _ _ c.ranges.mask.fits c.loop-left-test.true c.loop-left.invariant c.lowest-k.ensures).within, c.requires)
+
+pub loop-left-smaller : goal.loop-left-smaller
+loop-left-smaller c = left-falls _ databases _ _ _ _ _ c.ranges.mask.fits c.loop-left-test.true c.loop-left.invariant c.lowest-k.ensures _ c.rest-left.ensures
+
+pub loop-left-preserved : goal.loop-left-preserved
+loop-left-preserved c =
+    left-rest _ databases _ _ _ _ _ c.ranges.mask.fits c.loop-left-test.true c.loop-left.invariant c.lowest-k.ensures _ _ c.rest-left.ensures c.mark.ensures
+
+pub returns : goal.returns
+returns c = left_done _ databases _ _ _ _ c.loop-left-test.false c.loop-left.invariant

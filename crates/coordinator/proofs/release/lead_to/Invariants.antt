@@ -1,0 +1,12 @@
+use Rattle.std.proofs.Common.{◌+◌, ◌^◌, set, bit_or}
+use Rattle.mask.proofs.Walking.{Left}
+use Rattle.coordinator.specs.Limits.{jobs}
+use Rattle.coordinator.specs.Views.{entry}
+use Rattle.coordinator.proofs.release.lead_to.Given as goal
+
+abbrev pub invariant-loop-left : goal.invariant-loop-left
+invariant-loop-left l =
+    Left (λ b d. set d (l.first + b) (bit_or (entry d (l.first + b)) (2 ^ l.a.0))) jobs l.initial.left l.initial.dependencies l.left l.dependencies
+
+abbrev pub decreases-loop-left : goal.decreases-loop-left
+decreases-loop-left l = l.left
