@@ -1,12 +1,10 @@
 -- Asking for a step keeps the invariant. Assumes nothing.
 use Prim.Native.Nat.{ℕ, ◌<◌}
 use native.Mathlib.Omega.{arith}
-use mathlib.Core.Bool.{Bool, true, false, not}
-use mathlib.Core.Logic.{◌↔◌}
+use mathlib.Core.Bool.{Bool, true, false}
 use mathlib.Core.Option.{Option, none, some}
 use mathlib.Core.Path.{◌≡◌, refl, sym, ◌∙◌, subst}
-use borrow.Author.Tests.{eqb-false, eq-eqb, ne_eqb, ltb-true, not-false}
-use lib.Dec.{eqb, ltb}
+use borrow.Author.Tests.{eq-eqb, ne_eqb}
 use Rattle.loops.proofs.Tests.{both}
 use Rattle.rings.specs.Change.{releasing}
 use Rattle.rings.specs.Rule.{MayGo, StepWaits}
@@ -14,9 +12,9 @@ use Rattle.rings.proofs.Calls.{ask_held_kept, ask_released_kept}
 use Rattle.coordinator.specs.declared.Coordinator.{Coordinator}
 use Rattle.coordinator.specs.declared.answers.AskAnswer.{AskAnswer}
 use Rattle.coordinator.specs.declared.answers.AfterAsk.{AfterAsk}
-use Rattle.coordinator.specs.Limits.{jobs, databases}
-use Rattle.coordinator.specs.Views.{in_mask, names, asked, released, is_open}
-use Rattle.coordinator.specs.Holder.{holders, holder}
+use Rattle.coordinator.specs.Limits.{databases}
+use Rattle.coordinator.specs.Views.{names, asked, released, is_open}
+use Rattle.coordinator.specs.Holder.{holder}
 use Rattle.coordinator.specs.Change.{mark_asked}
 use Rattle.coordinator.specs.Release.{may_go, release}
 use Rattle.coordinator.specs.Refusal.{ask_refusal, step_refusal}
@@ -25,7 +23,7 @@ use Rattle.coordinator.specs.Answer.{ask_values}
 use Rattle.coordinator.specs.Call.{ask_step, play}
 use Rattle.effects.specs.View.{view}
 use Rattle.effects.specs.Effect.{asked_at, released_at}
-use Rattle.promises.specs.Told.{Told, asked_told, released_told, accepted as acceptedTold, tell}
+use Rattle.promises.specs.Told.{Told, asked_told, released_told, tell}
 use Rattle.promises.specs.Moment.{Moment, next}
 use Rattle.promises.specs.Tied.{history, Tied}
 use Rattle.promises.specs.Invariant.{Invariant}

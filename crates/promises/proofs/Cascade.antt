@@ -1,12 +1,12 @@
 -- One job after another closes, as long as some held close may go: what holds all the way, and at the end no held close may go. Assumes nothing.
 use Prim.Native.Nat.{ℕ, zero, suc, ◌+◌, ◌≤◌, ◌<◌}
 use native.Mathlib.Omega.{arith}
-use mathlib.Core.Bool.{Bool, true, false, not, ◌&&◌}
+use mathlib.Core.Bool.{Bool, true, false, ◌&&◌}
 use mathlib.Core.List.{List, [], ◌∷◌, ◌++◌}
 use mathlib.Core.Path.{◌≡◌, refl, sym, ap, ◌∙◌, subst}
 use borrow.Author.Tests.{eqb-true, eqb-false}
 use lib.Dec.{eqb}
-use lib.ListN.{length, take, set, length-set}
+use lib.ListN.{length, take, length-set}
 use lib.Seq.{take-suc-set}
 use Rattle.loops.proofs.Tests.{and_left, and_right, both}
 use Rattle.rings.specs.Change.{closing as closes}
@@ -24,7 +24,6 @@ use Rattle.coordinator.specs.Release.{may_close, may_close_now, first_of}
 use Rattle.coordinator.specs.Close.{Closing, close_one, close_held}
 use Rattle.effects.specs.View.{view}
 use Rattle.effects.specs.Effect.{removed_at}
-use Rattle.effects.proofs.Bounds.{held_range}
 use Rattle.effects.proofs.Tests.{may_close_now_lem, may_close_now_small, none_may_close, first_of_lem}
 use Rattle.promises.specs.Told.{Told, closed_told, all_closed_told}
 use Rattle.promises.specs.Promise.{Open}

@@ -1,9 +1,7 @@
 -- Asking to close a job keeps the invariant. Assumes nothing.
-use Prim.Native.Nat.{ℕ, ◌+◌, ◌<◌}
+use Prim.Native.Nat.{ℕ}
 use native.Mathlib.Omega.{arith}
 use mathlib.Core.Bool.{Bool, true, false, not, ◌&&◌, ◌||◌}
-use mathlib.Core.List.{List}
-use mathlib.Core.Logic.{◌↔◌}
 use mathlib.Core.Option.{Option, none, some}
 use mathlib.Core.Path.{◌≡◌, refl, sym, ap, ◌∙◌, subst}
 use borrow.Author.Tests.{ne_eqb}
@@ -12,19 +10,18 @@ use lib.ListN.{length-replicate}
 use Rattle.mask.specs.Member.{including, excluding, holds}
 use Rattle.mask.proofs.Holds.{holds_including, holds_excluding}
 use Rattle.mask.proofs.Equal.{equal_members}
-use Rattle.rings.specs.Kept.{Kept}
 use Rattle.rings.proofs.Marking.{holding_ordered}
 use Rattle.rings.proofs.Calls.{close_held_kept}
 use Rattle.coordinator.specs.declared.Coordinator.{Coordinator}
 use Rattle.coordinator.specs.declared.answers.CloseAnswer.{CloseAnswer}
 use Rattle.coordinator.specs.declared.answers.AfterClose.{AfterClose}
-use Rattle.coordinator.specs.Limits.{jobs, databases}
-use Rattle.coordinator.specs.Views.{is_open, names, confirmed, held, into, ticket, open_count, open_slots, opened}
-use Rattle.coordinator.specs.Holder.{holders, holder}
+use Rattle.coordinator.specs.Limits.{jobs}
+use Rattle.coordinator.specs.Views.{is_open, names, confirmed, into, ticket, opened}
+use Rattle.coordinator.specs.Holder.{holder}
 use Rattle.coordinator.specs.Change.{mark_held, removed, place}
 use Rattle.coordinator.specs.Release.{may_close}
 use Rattle.coordinator.specs.Refusal.{close_refusal, job_refusal}
-use Rattle.coordinator.specs.Close.{Closing, no_tickets, close_one, close_held, closing, closed_at, after_close}
+use Rattle.coordinator.specs.Close.{Closing, no_tickets, close_one, closing, closed_at, after_close}
 use Rattle.coordinator.specs.Answer.{close_values}
 use Rattle.coordinator.specs.Call.{close_job, play}
 use Rattle.effects.specs.View.{view}
@@ -38,7 +35,7 @@ use Rattle.promises.proofs.Same.{tied_alike}
 use Rattle.promises.proofs.Marks.{tied_held}
 use Rattle.promises.proofs.Reading.{holder_means, close_waits_job}
 use Rattle.promises.proofs.Refusals.{numbered}
-use Rattle.promises.proofs.Cascade.{Going, closed_so_far, one_closed, Ended, cascade, closes_wait, some_open}
+use Rattle.promises.proofs.Cascade.{Going, closed_so_far, one_closed, Ended, cascade, closes_wait}
 use Rattle.soundness.specs.Changed.{Changed}
 use Rattle.soundness.specs.Accepted.{CloseAccepted}
 use Rattle.soundness.proofs.Accepted.{close_accepted}

@@ -1,14 +1,12 @@
 -- Confirming a step keeps the invariant. Assumes nothing.
 use Prim.Native.Nat.{ℕ, ◌<◌}
 use native.Mathlib.Omega.{arith}
-use mathlib.Core.Bool.{Bool, true, false, not, ◌&&◌, ◌||◌}
-use mathlib.Core.Logic.{◌↔◌, ◌⊎◌, inl, inr}
+use mathlib.Core.Bool.{Bool, true, false, not, ◌&&◌}
 use mathlib.Core.Option.{Option, none, some}
 use mathlib.Core.Path.{◌≡◌, refl, sym, ◌∙◌, subst}
-use borrow.Author.Tests.{eqb-true, eqb-false, ne_eqb, ltb-true, not-true, not-false}
-use lib.Dec.{eqb, ltb}
-use Rattle.loops.proofs.Tests.{and_left, and_right, or_false, both}
-use Rattle.mask.specs.Member.{holds}
+use borrow.Author.Tests.{eqb-true, eqb-false, ne_eqb, not-true}
+use lib.Dec.{eqb}
+use Rattle.loops.proofs.Tests.{and_left, and_right, both}
 use Rattle.rings.specs.Change.{confirming, releasing}
 use Rattle.rings.specs.Rule.{Pending, MayGo, StepWaits}
 use Rattle.rings.proofs.Calls.{confirm_kept, confirm_released_kept}
@@ -16,8 +14,8 @@ use Rattle.coordinator.specs.declared.Coordinator.{Coordinator}
 use Rattle.coordinator.specs.declared.answers.ConfirmAnswer.{ConfirmAnswer}
 use Rattle.coordinator.specs.declared.answers.AfterConfirm.{AfterConfirm}
 use Rattle.coordinator.specs.Limits.{jobs, databases}
-use Rattle.coordinator.specs.Views.{asked, released, confirmed, is_open, ticket}
-use Rattle.coordinator.specs.Holder.{holders, holder}
+use Rattle.coordinator.specs.Views.{asked, released, is_open}
+use Rattle.coordinator.specs.Holder.{holder}
 use Rattle.coordinator.specs.Change.{mark_confirmed}
 use Rattle.coordinator.specs.Release.{may_go, may_go_at, first_of, release}
 use Rattle.coordinator.specs.Refusal.{confirm_refusal, step_refusal}

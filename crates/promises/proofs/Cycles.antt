@@ -2,12 +2,12 @@
 use Prim.Native.Nat.{ℕ}
 use mathlib.Core.Bool.{Bool, true, false}
 use mathlib.Core.List.{List, [], ◌∷◌, map}
-use mathlib.Core.Logic.{◌⊎◌, inl, inr, ◌≢◌}
-use mathlib.Core.Path.{◌≡◌, refl, sym, ◌∙◌}
-use lib.ListN.{length, length-map}
+use mathlib.Core.Logic.{◌⊎◌, inl, inr}
+use mathlib.Core.Path.{◌≡◌, refl}
+use lib.ListN.{length-map}
 use Rattle.rings.specs.Relation.{Chain, Ring}
-use Rattle.rings.specs.History.{History, Open}
-use Rattle.rings.specs.Cycle.{Joint, Apart, Distinct, Joined, ClosedChain, FreeForward, FreeBackward, Cycle}
+use Rattle.rings.specs.History.{Open}
+use Rattle.rings.specs.Cycle.{Joint, Apart, Distinct, Joined, ClosedChain, FreeForward, FreeBackward}
 use Rattle.rings.specs.Kept.{Walkless}
 use Rattle.rings.proofs.Cycles.{no_cycle}
 use Rattle.coordinator.specs.declared.Coordinator.{Coordinator}

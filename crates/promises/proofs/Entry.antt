@@ -2,11 +2,11 @@
 use Prim.Native.Nat.{ℕ, suc, ◌<◌}
 use native.Mathlib.Omega.{arith}
 use native.Mathlib.Nat.{lt_irrefl, le_step, le_refl}
-use mathlib.Core.Bool.{Bool, true, false, not, ◌&&◌, ◌||◌}
-use mathlib.Core.Logic.{◌↔◌, ◌⊎◌, inl, inr, ◌≢◌}
+use mathlib.Core.Bool.{Bool, true, false, ◌&&◌, ◌||◌}
+use mathlib.Core.Logic.{◌↔◌, ◌⊎◌, inl, inr}
 use mathlib.Core.Path.{◌≡◌, refl, sym, ap, ◌∙◌, subst}
-use borrow.Author.Tests.{eqb-true, eqb-false, eq-eqb, ne_eqb}
-use lib.Dec.{eqb, ltb}
+use borrow.Author.Tests.{eqb-true, eq-eqb, ne_eqb}
+use lib.Dec.{eqb}
 use Rattle.loops.proofs.Rules.{below_suc}
 use Rattle.loops.proofs.Tests.{and_left, and_right, or_cases, or_right, both}
 use Rattle.mask.specs.Member.{holds}
@@ -159,16 +159,16 @@ module _ {T : Told} {d : ℕ → ℕ → ℕ → Type 0} {J : ℕ → ℕ} {v : 
     rising : (i k : ℕ) → i < k → k < suc v.count → J' (v'.opened i) < J' (v'.opened k)
     rising i k h l = by (below_suc l)
       where
-        old-place : (x : ℕ) → x < v.count → J' (v'.opened x) ≡ J (v.opened x)
-        old-place x m =
+        old_place : (x : ℕ) → x < v.count → J' (v'.opened x) ≡ J (v.opened x)
+        old_place x m =
             ap J' (passed (eqb x v.count) n (v.opened x) (ne_eqb x v.count (λ e. omega arith)))
             ∙ there (v.opened x) (was_other (v.opened x) (Z.last x m))
 
         by : (k ≡ v.count) ⊎ (k < v.count) → J' (v'.opened i) < J' (v'.opened k)
         by (inl e) =
             let y : J' (v'.opened k) ≡ T.count = ap J' (chosen (eqb k v.count) n (v.opened k) (eq-eqb k v.count e)) ∙ here in
-            rw (y, old-place i (omega arith)) (K.sits (v.opened i) (Z.last i (omega arith))).0
-        by (inr m) = rw (old-place i (omega arith), old-place k m) (K.rising i k h m)
+            rw (y, old_place i (omega arith)) (K.sits (v.opened i) (Z.last i (omega arith))).0
+        by (inr m) = rw (old_place i (omega arith), old_place k m) (K.rising i k h m)
 
     -- the dependencies between jobs as they stand after the opening
     abbrev d' : ℕ → ℕ → ℕ → Type 0
@@ -194,8 +194,8 @@ module _ {T : Told} {d : ℕ → ℕ → ℕ → Type 0} {J : ℕ → ℕ} {v : 
       abbrev test : Bool
       test = eqb b n && f a u || (eqb b n && holds mask u && v.released a u || v.dep u a b)
 
-      both-new : a ≡ n → b ≡ n → (test ≡ true) ↔ d' u (J' a) (J' b)
-      both-new e g = rw (e, g, here, eq-eqb n n refl, unfound u, Z.no_released u, Z.none_into u n) (neither off none)
+      both_new : a ≡ n → b ≡ n → (test ≡ true) ↔ d' u (J' a) (J' b)
+      both_new e g = rw (e, g, here, eq-eqb n n refl, unfound u, Z.no_released u, Z.none_into u n) (neither off none)
         where
           off : holds mask u && false || false ≡ false
           off = by (holds mask u)
@@ -231,8 +231,8 @@ module _ {T : Told} {d : ℕ → ℕ → ℕ → Type 0} {J : ℕ → ℕ} {v : 
           from (inl x) = absurd (no_new (D.dep_open x).1.0)
           from (inr (z, x)) = tidy.1 ((leads_iff u a o).1 x)
 
-      both-old : eqb a n ≡ false → v.is_open a ≡ true → eqb b n ≡ false → v.is_open b ≡ true → (test ≡ true) ↔ d' u (J' a) (J' b)
-      both-old e o g p = rw (g, there a e, there b g) (λ x. inl ((K.dep u a b o p).0 x), from)
+      both_old : eqb a n ≡ false → v.is_open a ≡ true → eqb b n ≡ false → v.is_open b ≡ true → (test ≡ true) ↔ d' u (J' a) (J' b)
+      both_old e o g p = rw (g, there a e, there b g) (λ x. inl ((K.dep u a b o p).0 x), from)
         where
           from : d u (J a) (J b) ⊎ ((J b ≡ T.count) × Leads (history T d) (λ k. holds mask k ≡ true) found u (J a)) → v.dep u a b ≡ true
           from (inl x) = (K.dep u a b o p).1 x
@@ -242,10 +242,10 @@ module _ {T : Told} {d : ℕ → ℕ → ℕ → Type 0} {J : ℕ → ℕ} {v : 
       dep_iff g h = by (old_or_new a g) (old_or_new b h)
         where
           by : (a ≡ n) ⊎ ((eqb a n ≡ false) × (v.is_open a ≡ true)) → (b ≡ n) ⊎ ((eqb b n ≡ false) × (v.is_open b ≡ true)) → (test ≡ true) ↔ d' u (J' a) (J' b)
-          by (inl e) (inl g) = both-new e g
+          by (inl e) (inl g) = both_new e g
           by (inl e) (inr (g, p)) = from_new e g p
           by (inr (e, o)) (inl g) = into_new e o g
-          by (inr (e, o)) (inr (g, p)) = both-old e o g p
+          by (inr (e, o)) (inr (g, p)) = both_old e o g p
 
     pub tied_opened : Tied T' d' J' v'
     tied_opened = record {

@@ -1,7 +1,7 @@
 -- The bound that the coordinator gives before an opening is three for each pair of an earlier open job and a database it names. Assumes nothing.
-use Prim.Native.Nat.{ℕ, ◌*◌, ◌^◌, ◌<◌}
-use mathlib.Core.Bool.{Bool, true, false, not, ◌&&◌, ◌||◌}
-use mathlib.Core.Path.{◌≡◌, refl, sym, ap, ◌∙◌}
+use Prim.Native.Nat.{ℕ, ◌*◌}
+use mathlib.Core.Bool.{false, not, ◌&&◌, ◌||◌}
+use mathlib.Core.Path.{◌≡◌, sym, ap, ◌∙◌}
 use native.Mathlib.Decide.{ℕ_discrete}
 use borrow.Author.Tests.{eq-eqb, ne_eqb}
 use lib.Dec.{eqb}

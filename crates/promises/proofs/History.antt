@@ -1,14 +1,11 @@
 -- The invariant holds after every history. Assumes nothing.
 use Prim.Native.Nat.{ℕ, ◌^◌, ◌<◌}
 use native.Mathlib.Nat.{not-suc-le-zero}
-use mathlib.Core.Bool.{Bool, true, false}
 use mathlib.Core.List.{List, [], ◌∷◌}
-use mathlib.Core.Path.{◌≡◌, refl}
+use mathlib.Core.Path.{refl}
 use Rattle.loops.proofs.Tests.{both}
 use Rattle.rings.proofs.Calls.{fresh_kept}
-use Rattle.coordinator.specs.Fresh.{fresh}
 use Rattle.coordinator.specs.Call.{Call, open_job, ask_step, confirm_step, close_job}
-use Rattle.effects.specs.View.{view}
 use Rattle.effects.specs.Effect.{nothing_open}
 use Rattle.effects.proofs.Fresh.{fresh_view}
 use Rattle.promises.specs.Told.{nothing}

@@ -5,35 +5,33 @@ use native.Mathlib.Nat.{lt_irrefl}
 use mathlib.Core.Bool.{Bool, true, false}
 use mathlib.Core.Logic.{◌↔◌}
 use mathlib.Core.Option.{Option, none, some}
-use mathlib.Core.Path.{◌≡◌, refl, sym, ap, ◌∙◌, subst}
+use mathlib.Core.Path.{◌≡◌, refl, sym, subst}
 use borrow.Author.Tests.{ne_eqb}
-use lib.Dec.{eqb}
 use Rattle.mask.specs.Member.{holds}
 use Rattle.numbers.specs.Ticket.{after}
 use Rattle.rings.specs.Change.{opening}
 use Rattle.rings.proofs.Calls.{open_kept}
 use Rattle.coordinator.specs.declared.Coordinator.{Coordinator}
 use Rattle.coordinator.specs.declared.answers.OpenAnswer.{OpenAnswer}
-use Rattle.coordinator.specs.declared.answers.OpenAnswer.TheVariants.{Opened}
 use Rattle.coordinator.specs.declared.answers.AfterOpen.{AfterOpen}
 use Rattle.coordinator.specs.Limits.{jobs}
 use Rattle.coordinator.specs.Shape.{Shape}
 use Rattle.coordinator.specs.Sound.{Sound}
-use Rattle.coordinator.specs.Views.{entry, is_open, open_count, names, dep}
+use Rattle.coordinator.specs.Views.{entry, is_open, open_count}
 use Rattle.coordinator.specs.Refusal.{open_refusal, slot_refusal}
-use Rattle.coordinator.specs.Open.{free_slot, ticket_for, entered, searched, with_found, added, accepted, after_open}
+use Rattle.coordinator.specs.Open.{free_slot, ticket_for, entered, searched, with_found, accepted, after_open}
 use Rattle.coordinator.specs.Answer.{open_values}
 use Rattle.coordinator.specs.Call.{open_job, play}
 use Rattle.effects.specs.View.{view}
 use Rattle.effects.specs.Effect.{entered_at, found_at}
 use Rattle.effects.proofs.Holder.{free_slot_lem}
-use Rattle.promises.specs.Told.{Told, opened_told, tell}
-use Rattle.promises.specs.Moment.{Moment, Fits, next}
-use Rattle.promises.specs.Tied.{history, Tied}
+use Rattle.promises.specs.Told.{opened_told, tell}
+use Rattle.promises.specs.Moment.{Moment, next}
+use Rattle.promises.specs.Tied.{history}
 use Rattle.promises.specs.Invariant.{Invariant}
 use Rattle.promises.proofs.Same.{tied_alike}
 use Rattle.promises.proofs.Entry.{FreeAt, seated, tied_opened}
-use Rattle.promises.proofs.Searching.{Found, found_all, found_facts, was_open}
+use Rattle.promises.proofs.Searching.{Found, found_all, found_facts}
 use Rattle.promises.proofs.Refusals.{numbered}
 use Rattle.soundness.specs.Changed.{Changed}
 use Rattle.soundness.proofs.Free.{free_names, free_asked, free_released, free_confirmed, free_held, free_from_lem, free_into}

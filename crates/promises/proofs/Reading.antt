@@ -1,15 +1,13 @@
 -- What the tables' tests say of jobs. Assumes nothing.
 use Prim.Native.Nat.{ℕ}
-use mathlib.Core.Bool.{Bool, true, false}
-use mathlib.Core.Logic.{◌↔◌, ◌≢◌}
+use mathlib.Core.Bool.{true, false}
 use mathlib.Core.Path.{◌≡◌, sym, ap, ◌∙◌, subst}
 use Rattle.loops.proofs.Tests.{both}
 use Rattle.rings.specs.Rule.{MayGo, StepWaits, MayClose, CloseWaits}
 use Rattle.coordinator.specs.declared.Coordinator.{Coordinator}
-use Rattle.coordinator.specs.Limits.{jobs}
 use Rattle.coordinator.specs.Shape.{Shape}
 use Rattle.coordinator.specs.Sound.{Sound}
-use Rattle.coordinator.specs.Views.{is_open, dep, ticket, confirmed}
+use Rattle.coordinator.specs.Views.{is_open, dep}
 use Rattle.coordinator.specs.Holder.{holder}
 use Rattle.coordinator.specs.Release.{may_go, may_close}
 use Rattle.effects.specs.View.{view}

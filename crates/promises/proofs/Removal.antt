@@ -1,11 +1,10 @@
 -- A job closed: the tie stays for the others. Assumes nothing.
-use Prim.Native.Nat.{ℕ, ◌+◌, ◌-◌, ◌<◌, ◌≤◌}
+use Prim.Native.Nat.{ℕ, ◌+◌, ◌<◌, ◌≤◌}
 use native.Mathlib.Omega.{arith}
-use native.Mathlib.Decide.{ℕ_discrete}
 use mathlib.Core.Bool.{Bool, true, false, not, ◌&&◌}
 use mathlib.Core.Logic.{◌↔◌, inl, inr, ◌≢◌}
 use mathlib.Core.Path.{◌≡◌, refl, sym, ap, ◌∙◌}
-use borrow.Author.Tests.{eqb-false, ne_eqb, not-true, ltb-true, ltb-false, lt-ltb}
+use borrow.Author.Tests.{eqb-false, ne_eqb, not-true, ltb-true, ltb-false}
 use lib.Dec.{eqb, ltb}
 use Rattle.loops.specs.Sum.{tally}
 use Rattle.loops.proofs.Tests.{and_left, and_right, both}
@@ -53,11 +52,11 @@ module _ {T : Told} {d : ℕ → ℕ → ℕ → Type 0} {J : ℕ → ℕ} {v : 
     kept b e = (λ x. e.0 (and_right (not (eqb i j)) b x), λ x. rw (other, e.1 x))
 
   still_open : (a : ℕ) → a ≢ J j → Open T a → Open (closed_told T (J j)) a
-  still_open a n (h, u) = (h, λ c. not-closed c.1)
+  still_open a n (h, u) = (h, λ c. not_closed c.1)
     where
-      not-closed : {t : ℕ} → ¬ (closed_told T (J j)).closed a t
-      not-closed (inl c) = u (_, c)
-      not-closed (inr (e, f)) = n e
+      not_closed : {t : ℕ} → ¬ (closed_told T (J j)).closed a t
+      not_closed (inl c) = u (_, c)
+      not_closed (inr (e, f)) = n e
 
   opened_before : (a : ℕ) → Open (closed_told T (J j)) a → Open T a
   opened_before a (h, u) = (h, λ c. u (c.0, inl c.1))

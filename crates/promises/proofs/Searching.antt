@@ -1,7 +1,7 @@
 -- The search's walks over slots are those over jobs, so what it finds is what the rings ask of an opening. Assumes nothing.
 use Prim.Native.Nat.{ℕ, ◌<◌}
-use mathlib.Core.Bool.{Bool, true, false, not, ◌&&◌, ◌||◌}
-use mathlib.Core.Logic.{◌↔◌, ◌⊎◌, inl, inr, ◌≢◌}
+use mathlib.Core.Bool.{Bool, true, false, ◌&&◌, ◌||◌}
+use mathlib.Core.Logic.{◌↔◌, ◌⊎◌, inl, inr}
 use mathlib.Core.Path.{◌≡◌, refl, sym, ap, ◌∙◌, subst, subst₂}
 use native.Mathlib.Nat.{lt_irrefl, le_step}
 use borrow.Author.Tests.{eq-eqb, ne_eqb}
@@ -15,7 +15,6 @@ use Rattle.rings.specs.Walk.{Link}
 use Rattle.rings.specs.Rule.{unsearched, Reached, first, next, Searched}
 use Rattle.rings.specs.Kept.{Formed, Depends}
 use Rattle.coordinator.specs.declared.Coordinator.{Coordinator}
-use Rattle.coordinator.specs.Limits.{jobs, databases}
 use Rattle.coordinator.specs.Views.{entry, names}
 use Rattle.coordinator.specs.Shape.{Shape}
 use Rattle.coordinator.specs.Open.{graph, searched}
@@ -139,7 +138,7 @@ module _ {T : Told} {d : ℕ → ℕ → ℕ → Type 0} {J : ℕ → ℕ} {v : 
   pub found_all : Searched (history T d) named (Found J v f)
   found_all = record {
     found_open = λ (i, o, x, h). subst (Open T) x (K.sits i o);
-    found_names = λ {v = a} {u = u} (i, o, x, h). old-names i u a o x h;
+    found_names = λ {v = a} {u = u} (i, o, x, h). old_names i u a o x h;
     found_named = λ {u = u} (i, o, x, h). new_names i u h;
     found_all = λ {v = a} r c l.
         let (i, p, q, z) = reach r in
@@ -148,8 +147,8 @@ module _ {T : Told} {d : ℕ → ℕ → ℕ → Type 0} {J : ℕ → ℕ} {v : 
         (i, o, sym (passed (eqb i n) T.count (J i) (other i _ g)) ∙ q, g);
   }
     where
-      old-names : (i u a : ℕ) → v.is_open i ≡ true → J i ≡ a → f i u ≡ true → T.names a u
-      old-names i u a o x h = subst (λ (y : ℕ). T.names y u) x ((K.names i u o).0 (sym (A.names i u ∙ rw (other i u h)) ∙ (found_facts i u h).names))
+      old_names : (i u a : ℕ) → v.is_open i ≡ true → J i ≡ a → f i u ≡ true → T.names a u
+      old_names i u a o x h = subst (λ (y : ℕ). T.names y u) x ((K.names i u o).0 (sym (A.names i u ∙ rw (other i u h)) ∙ (found_facts i u h).names))
 
       new_names : (i u : ℕ) → f i u ≡ true → holds mask u ≡ true
       new_names i u h = only (or_cases (holds mask u) false (sym (A.names n u ∙ rw (eq-eqb n n refl, Z.no_names u)) ∙ (found_facts i u h).new_names))

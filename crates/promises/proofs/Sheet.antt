@@ -28,7 +28,12 @@ use Rattle.coordinator.specs.declared.Coordinator.{Coordinator}
 use Rattle.promises.specs.Sheet.{Holds, openings, full_table, one_left, sheet, AllHold}
 
 full_table_lem : Holds full_table
-unfolding answers play after_open accepted added with_found searched entered ticket_for held_tickets free_slot after_ask asked_for after_confirm confirmed_at released_one may_go release may_go_at first_of mark mark_asked mark_released mark_confirmed with_dependencies lead lead_to taken first_row all_confirmed open_refusal ask_refusal confirm_refusal close_refusal ticket_sound listed place_sound partners pressing row_sound rows_sound marks_sound steps_sound database_sound sound_in sound open_in sharers_in holders_in holders holder in_mask names asked released confirmed open_slots is_open open_count ticket held opened into dep over every guard choice sum table including excluding over_members gather union_of opening_search absent_in free_from ones_in count_trailing_zeros slot_refusal step_refusal job_refusal
+unfolding answers play after_open accepted added with_found searched entered ticket_for held_tickets free_slot after_ask asked_for after_confirm
+    confirmed_at released_one may_go release may_go_at first_of mark mark_asked mark_released mark_confirmed with_dependencies lead lead_to taken
+    first_row all_confirmed open_refusal ask_refusal confirm_refusal close_refusal ticket_sound listed place_sound partners pressing row_sound
+    rows_sound marks_sound steps_sound database_sound sound_in sound open_in sharers_in holders_in holders holder in_mask names asked released
+    confirmed open_slots is_open open_count ticket held opened into dep over every guard choice sum table including excluding over_members gather
+    union_of opening_search absent_in free_from ones_in count_trailing_zeros slot_refusal step_refusal job_refusal
 full_table_lem = refl
 
 -- what the first of the calls answer does not depend on those that follow
@@ -41,5 +46,10 @@ one_left_lem : Holds one_left
 one_left_lem = sym (first_answers (fresh 0) (openings 32) (open_job 0 ∷ open_job 1 ∷ [])) ∙ ap (take 32) full_table_lem
 
 pub job_sheet : AllHold sheet
-unfolding answers play after_open accepted added with_found searched entered ticket_for held_tickets free_slot after_ask asked_for after_confirm confirmed_at released_one may_go release may_go_at first_of mark mark_asked mark_released mark_confirmed with_dependencies lead lead_to taken first_row all_confirmed open_refusal ask_refusal confirm_refusal close_refusal ticket_sound listed place_sound partners pressing row_sound rows_sound marks_sound steps_sound database_sound sound_in sound open_in sharers_in holders_in holders holder in_mask names asked released confirmed open_slots is_open open_count ticket held opened into dep over every guard choice sum table including excluding over_members gather union_of opening_search absent_in free_from ones_in count_trailing_zeros slot_refusal step_refusal job_refusal
+unfolding answers play after_open accepted added with_found searched entered ticket_for held_tickets free_slot after_ask asked_for after_confirm
+    confirmed_at released_one may_go release may_go_at first_of mark mark_asked mark_released mark_confirmed with_dependencies lead lead_to taken
+    first_row all_confirmed open_refusal ask_refusal confirm_refusal close_refusal ticket_sound listed place_sound partners pressing row_sound
+    rows_sound marks_sound steps_sound database_sound sound_in sound open_in sharers_in holders_in holders holder in_mask names asked released
+    confirmed open_slots is_open open_count ticket held opened into dep over every guard choice sum table including excluding over_members gather
+    union_of opening_search absent_in free_from ones_in count_trailing_zeros slot_refusal step_refusal job_refusal
 job_sheet = (refl, (refl, (refl, (refl, (refl, (refl, (refl, (refl, (full_table_lem, (one_left_lem, (refl, tt)))))))))))

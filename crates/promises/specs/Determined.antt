@@ -28,7 +28,7 @@ Determines {A} P = (x y : A) → P x → P y → x ≡ y
 
 pub record Determined : Type 0 where
   -- the coordinator
-  pub open_job_lem : (s : Coordinator) (mask : ℕ) → Determines (λ (r : AfterOpen). r ≡ after_open s mask)
+  pub open_job : (s : Coordinator) (mask : ℕ) → Determines (λ (r : AfterOpen). r ≡ after_open s mask)
   pub ask : (s : Coordinator) (t k : ℕ) → Determines (λ (r : AfterAsk). r ≡ after_ask s t k)
   pub confirm : (s : Coordinator) (t k : ℕ) → Determines (λ (r : AfterConfirm). r ≡ after_confirm s t k)
   pub close : (s : Coordinator) (t : ℕ) → Determines (λ (r : AfterClose). r ≡ after_close s t)
@@ -39,9 +39,9 @@ pub record Determined : Type 0 where
   pub close_tested : (b : Bool) (s : Coordinator) (t : ℕ) → Determines (λ (r : AfterClose). r ≡ after_close_tested b s t)
   pub start : (n : ℕ) → Determines (λ (r : Coordinator). r ≡ fresh n)
   pub is_sound : (s : Coordinator) → Determines (λ (r : Bool). r ≡ sound s)
-  pub most_moves_lem : (s : Coordinator) → Determines (λ (r : ℕ). r ≡ most_moves s)
+  pub most_moves : (s : Coordinator) → Determines (λ (r : ℕ). r ≡ most_moves s)
   -- its tables
-  pub open_slots_lem : (named : List ℕ) → Determines (λ (r : ℕ). r ≡ open_in named)
+  pub open_slots : (named : List ℕ) → Determines (λ (r : ℕ). r ≡ open_in named)
   pub holders_of : (tickets named : List ℕ) (t : ℕ) → Determines (λ (r : ℕ). r ≡ holders_in tickets (open_in named) t)
   pub all_sound : (tickets : List ℕ) (held : ℕ) (order named asked released confirmed dependencies : List ℕ)
       → Determines (λ (r : Bool). r ≡ sound_in tickets held order named asked released confirmed dependencies)
@@ -54,7 +54,7 @@ pub record Determined : Type 0 where
   -- the number maker. `take` gives the ticket and leaves the number maker behind the reference; `hand_out` gives both back.
   pub absent : (held : List ℕ) (t : ℕ) → Determines (λ (r : Bool). r ≡ absent_in held t)
   pub next_number : (t : ℕ) → Determines (λ (r : ℕ). r ≡ after t)
-  pub free_from_lem : (held : List ℕ) (from : ℕ) → Determines (λ (r : ℕ). r ≡ ticket_from held from)
+  pub free_from : (held : List ℕ) (from : ℕ) → Determines (λ (r : ℕ). r ≡ ticket_from held from)
   pub hand_out : (held : List ℕ) (next : ℕ) → Determines (λ (r : Handed). (r.ticket.0 ≡ ticket_from held next) × (r.maker.next ≡ after r.ticket.0))
   -- sets of n slots or databases
   pub member : (m k : ℕ) → Determines (λ (r : Bool). r ≡ holds m k)

@@ -35,7 +35,7 @@ pub record Refusals : Type 0 where
   -- a state that isn't sound is refused with 10, whatever the call
   pub damaged : (s : Coordinator) (c : Call) → Shape s → ¬ Sound s → refusal_of s c ≡ some 10
   -- the number is that of the first row that applies, and where there is no refusal none does
-  pub first_row_lem : (s : Coordinator) (c : Call) (n : ℕ) → refusal_of s c ≡ some n → FirstApplies (rows_of s c) n
+  pub first_row : (s : Coordinator) (c : Call) (n : ℕ) → refusal_of s c ≡ some n → FirstApplies (rows_of s c) n
   pub no_row : (s : Coordinator) (c : Call) → refusal_of s c ≡ none → (i : ℕ) → i < length (rows_of s c) → (row (rows_of s c) i).applies ≡ false
   -- no refusal has the number 0
   pub numbered : (s : Coordinator) (c : Call) (n : ℕ) → refusal_of s c ≡ some n → ¬ (n ≡ 0)

@@ -3,7 +3,6 @@
 use Rattle.std.specs.Prelude.{ℕ, ◌^◌, ◌<◌, List, [], ◌∷◌}
 use Rattle.coordinator.specs.declared.Coordinator.{Coordinator}
 use Rattle.coordinator.specs.Fresh.{fresh}
-use Rattle.coordinator.specs.Answer.{Values}
 use Rattle.coordinator.specs.Call.{Call, open_job, ask_step, confirm_step, close_job, Played, play}
 use Rattle.promises.specs.Told.{Told, nothing, tell}
 

@@ -1,5 +1,5 @@
 -- The jobs of a state by their slots, as the definition of cycles reads them. Assumes nothing: these are definitions.
-use Rattle.std.specs.Prelude.{ℕ, true, false, List, ◌≡◌}
+use Rattle.std.specs.Prelude.{true, false, List, ◌≡◌}
 use Rattle.rings.specs.History.{History}
 use Rattle.rings.specs.Cycle.{Joint, Cycle}
 use Rattle.coordinator.specs.declared.Coordinator.{Coordinator}

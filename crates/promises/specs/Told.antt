@@ -1,6 +1,6 @@
 -- What the calls and their answers tell, with no look at the tables. Job a is the a-th accepted opening, counted from 0, though its number was used earlier.
 -- Assumes nothing: these are definitions.
-use Rattle.std.specs.Prelude.{ℕ, zero, suc, Bool, true, false, List, [], ◌∷◌, ◌⊎◌, ◌≡◌, eqb}
+use Rattle.std.specs.Prelude.{ℕ, zero, suc, true, false, List, [], ◌∷◌, ◌⊎◌, ◌≡◌, eqb}
 use Rattle.mask.specs.Member.{holds}
 use Rattle.coordinator.specs.Answer.{Values}
 use Rattle.coordinator.specs.Call.{Call, open_job, ask_step, confirm_step, close_job}
