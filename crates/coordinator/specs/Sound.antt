@@ -21,7 +21,7 @@ pub record Joins (s : Coordinator) (k a b : ℕ) : Type 0 where
 
 -- a free slot holds only zeros
 pub record Zeros (s : Coordinator) (j : ℕ) : Type 0 where
-  pub no_ticket_lem : ticket s j ≡ 0
+  pub no_ticket : ticket s j ≡ 0
   pub not_held : held s j ≡ false
   pub not_asked : (k : ℕ) → asked s j k ≡ false
   pub not_released : (k : ℕ) → released s j k ≡ false

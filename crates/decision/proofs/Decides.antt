@@ -72,7 +72,7 @@ module _ (s : Coordinator) (h : Shape s) where
       let unasked : (k : ℕ) → asked s j k ≡ true → ⊥ = λ k e. both (open_names s h j k ((p.marks k (asked_range s h j k e).1).asked_named j e)) o in
       let unreleased : (k : ℕ) → released s j k ≡ true → ⊥ = λ k e. unasked k ((p.marks k (released_range s h j k e).1).released_asked j e) in
       record {
-        no_ticket_lem = p.tickets.none j o;
+        no_ticket = p.tickets.none j o;
         not_held = untrue (held s j) (λ e. both (p.held_open j e) o);
         not_asked = λ k. untrue (asked s j k) (unasked k);
         not_released = λ k. untrue (released s j k) (unreleased k);
@@ -106,7 +106,7 @@ module _ (s : Coordinator) (h : Shape s) where
   parts : Sound s → Parts s
   parts c = record {
     held_open = λ j e. held_open_of c j e (is_open s j) refl;
-    tickets = record { differ = c.tickets_differ; none = λ j o. (c.free_zeros j o).no_ticket_lem };
+    tickets = record { differ = c.tickets_differ; none = λ j o. (c.free_zeros j o).no_ticket };
     order = c.ordered;
     marks = λ k l. record {
       asked_named = λ j e. c.asked_named j k e;

@@ -100,7 +100,7 @@ module _ (v : View) (S : SoundView v) (N : NamesOpen v) (n mask t next : ℕ) (f
       let (d, o) = or_false (eqb a n) (v.is_open a) e in
       let z = S.free_zeros a o in
       record {
-        no_ticket_lem = ticket_old a (eqb-false a n d) ∙ z.no_ticket_lem;
+        no_ticket = ticket_old a (eqb-false a n d) ∙ z.no_ticket;
         not_held = z.not_held;
         not_asked = z.not_asked;
         not_released = z.not_released;

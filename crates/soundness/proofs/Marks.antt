@@ -34,7 +34,7 @@ module _ (v : View) (S : SoundView v) (j k : ℕ) (o : v.is_open j ≡ true) whe
     under_way = S.under_way;
     held_confirmed = S.held_confirmed;
     free_zeros = λ a e. let z = S.free_zeros a e in record {
-      no_ticket_lem = z.no_ticket_lem;
+      no_ticket = z.no_ticket;
       not_held = z.not_held;
       not_asked = λ u. unmarked v.is_open a j u k (v.asked a u) o e (z.not_asked u);
       not_released = z.not_released;
@@ -54,7 +54,7 @@ module _ (v : View) (S : SoundView v) (j k : ℕ) (o : v.is_open j ≡ true) whe
     under_way = λ u a b p c. S.under_way u a b p (or_false (eqb a j && eqb u k) (v.confirmed a u) c).1;
     held_confirmed = λ a u e n. or_right (eqb a j && eqb u k) (v.confirmed a u) (S.held_confirmed a u e n);
     free_zeros = λ a e. let z = S.free_zeros a e in record {
-      no_ticket_lem = z.no_ticket_lem;
+      no_ticket = z.no_ticket;
       not_held = z.not_held;
       not_asked = z.not_asked;
       not_released = z.not_released;
@@ -75,7 +75,7 @@ module _ (v : View) (S : SoundView v) (j : ℕ) (o : v.is_open j ≡ true) where
     under_way = S.under_way;
     held_confirmed = λ a u e. by a u (or_cases (eqb a j) (v.held a) e);
     free_zeros = λ a e. let z = S.free_zeros a e in record {
-      no_ticket_lem = z.no_ticket_lem;
+      no_ticket = z.no_ticket;
       not_held = untrue _ (λ q. not_this a e z.not_held (or_cases (eqb a j) (v.held a) q));
       not_asked = z.not_asked;
       not_released = z.not_released;

@@ -64,7 +64,7 @@ module _ (v : View) (S : SoundView v) (N : NamesOpen v) (j k : ℕ) (asks : v.as
         released_under u a b (marked a j u k (v.released a u) r) c d o n (or_false (eqb b j && eqb u k) (v.released b u) w).1;
     held_confirmed = S.held_confirmed;
     free_zeros = λ a e. let z = S.free_zeros a e in record {
-      no_ticket_lem = z.no_ticket_lem;
+      no_ticket = z.no_ticket;
       not_held = z.not_held;
       not_asked = z.not_asked;
       not_released = λ u. unmarked v.is_open a j u k (v.released a u) (N j k named) e (z.not_released u);

@@ -35,7 +35,7 @@ module _ (v : View) (S : SoundView v) (j p : ℕ) where
   removed_empty : (a : ℕ) → Dec (a ≡ j) → not (eqb a j) && v.is_open a ≡ false
       → Empty (removed_at v j p).ticket (removed_at v j p).held (removed_at v j p).asked (removed_at v j p).released (removed_at v j p).confirmed a
   removed_empty a (yes e) f = record {
-    no_ticket_lem = number_here 0 (v.ticket a) a j e;
+    no_ticket = number_here 0 (v.ticket a) a j e;
     not_held = no_more a j (v.held a) e;
     not_asked = λ k. no_more a j (v.asked a k) e;
     not_released = λ k. no_more a j (v.released a k) e;
@@ -44,7 +44,7 @@ module _ (v : View) (S : SoundView v) (j p : ℕ) where
   removed_empty a (no d) f =
       let z = S.free_zeros a (other_not a j (v.is_open a) d f) in
       record {
-        no_ticket_lem = number_there 0 (v.ticket a) a j d ∙ z.no_ticket_lem;
+        no_ticket = number_there 0 (v.ticket a) a j d ∙ z.no_ticket;
         not_held = none_other a j (v.held a) z.not_held;
         not_asked = λ k. none_other a j (v.asked a k) (z.not_asked k);
         not_released = λ k. none_other a j (v.released a k) (z.not_released k);

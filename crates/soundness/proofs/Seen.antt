@@ -29,7 +29,7 @@ seen_sound s S = record {
   under_way = S.under_way;
   held_confirmed = S.held_confirmed;
   free_zeros = λ j e. let z = S.free_zeros j e in record {
-    no_ticket_lem = z.no_ticket_lem;
+    no_ticket = z.no_ticket;
     not_held = z.not_held;
     not_asked = z.not_asked;
     not_released = z.not_released;
@@ -64,7 +64,7 @@ module _ (s : Coordinator) (h : Shape s) (v : View) (A : Alike (view s) v) (S : 
 
   shown_zeros : (j : ℕ) → Empty v.ticket v.held v.asked v.released v.confirmed j → Zeros s j
   shown_zeros j z = record {
-    no_ticket_lem = A.ticket j ∙ z.no_ticket_lem;
+    no_ticket = A.ticket j ∙ z.no_ticket;
     not_held = A.held j ∙ z.not_held;
     not_asked = λ k. A.asked j k ∙ z.not_asked k;
     not_released = λ k. A.released j k ∙ z.not_released k;

@@ -21,7 +21,7 @@ pub record Joined (is_open : ℕ → Bool) (names : ℕ → ℕ → Bool) (k a b
 
 -- a free slot holds only zeros
 pub record Empty (ticket : ℕ → ℕ) (held : ℕ → Bool) (asked released confirmed : ℕ → ℕ → Bool) (j : ℕ) : Type 0 where
-  pub no_ticket_lem : ticket j ≡ 0
+  pub no_ticket : ticket j ≡ 0
   pub not_held : held j ≡ false
   pub not_asked : (k : ℕ) → asked j k ≡ false
   pub not_released : (k : ℕ) → released j k ≡ false
