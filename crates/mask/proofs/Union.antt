@@ -1,7 +1,7 @@
 -- A union over an index holds what one of its sets holds, and is empty where all of them are. Assumes nothing.
 use Rattle.std.proofs.Common.{◌≡◌, ℕ, zero, suc, ◌^◌, ◌<◌, Bool, true, false, ◌&&◌, ◌||◌, eqb, ◌⊎◌, ◌↔◌, sym, refl, ap, ◌∙◌, inl, inr, le_refl, not-suc-le-zero, arith, pow_pos, ne_eqb, eqb-true}
 use borrow.Author.Tests.{eqb-false}
-use lib.Bits.{bit_and, bit_or, or_lt, or_add_and, and_le_l, and_comm}
+use lib.Bits.{bit_or, or_lt, or_add_and, and_le_l, and_comm}
 use Rattle.loops.specs.Loop.{over, every}
 use Rattle.loops.proofs.Rules.{below_suc}
 use Rattle.loops.proofs.Tests.{both, or_cases, or_right}
