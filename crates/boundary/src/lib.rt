@@ -7,7 +7,7 @@ mod row;
 mod state;
 
 ghost use Rattle.std.specs.Prelude.{◌≡◌, []};
-ghost use Rattle.std.proofs.Math.Option.{some};
+ghost use Rattle.std.specs.Prelude.{Some};
 ghost use Rattle.coordinator.specs.Call.{open_job, ask_step, confirm_step, close_job};
 ghost use Rattle.record.specs.Record.{call_of};
 ghost use Rattle.boundary.specs.Outcome.{records_played, called, started, moves_at_most};
@@ -79,28 +79,28 @@ fn call(state: &mut [u8], kind: u8, database: u8, value: u16, answer: &mut [u8])
 
 #[unsafe(no_mangle)]
 pub extern "C" fn open_job(state: &mut [u8], mask: u16, answer: &mut [u8]) -> u8
-    ensures { record { code = result; state = state.new; answers = answer.new } ≡ called (some (open_job mask)) state.old answer.old }
+    ensures { record { code = result; state = state.new; answers = answer.new } ≡ called (Some (open_job mask)) state.old answer.old }
 {
     call(state, 1, 0, mask, answer)
 }
 
 #[unsafe(no_mangle)]
 pub extern "C" fn ask_step(state: &mut [u8], ticket: u16, database: u8, answer: &mut [u8]) -> u8
-    ensures { record { code = result; state = state.new; answers = answer.new } ≡ called (some (ask_step ticket database)) state.old answer.old }
+    ensures { record { code = result; state = state.new; answers = answer.new } ≡ called (Some (ask_step ticket database)) state.old answer.old }
 {
     call(state, 2, database, ticket, answer)
 }
 
 #[unsafe(no_mangle)]
 pub extern "C" fn confirm_step(state: &mut [u8], ticket: u16, database: u8, answer: &mut [u8]) -> u8
-    ensures { record { code = result; state = state.new; answers = answer.new } ≡ called (some (confirm_step ticket database)) state.old answer.old }
+    ensures { record { code = result; state = state.new; answers = answer.new } ≡ called (Some (confirm_step ticket database)) state.old answer.old }
 {
     call(state, 3, database, ticket, answer)
 }
 
 #[unsafe(no_mangle)]
 pub extern "C" fn close_job(state: &mut [u8], ticket: u16, answer: &mut [u8]) -> u8
-    ensures { record { code = result; state = state.new; answers = answer.new } ≡ called (some (close_job ticket)) state.old answer.old }
+    ensures { record { code = result; state = state.new; answers = answer.new } ≡ called (Some (close_job ticket)) state.old answer.old }
 {
     call(state, 4, 0, ticket, answer)
 }

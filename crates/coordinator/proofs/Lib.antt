@@ -11,5 +11,4 @@ pub mod Reach
 pub mod Opening
 pub mod Step
 pub mod Tested
-pub mod Asking
-pub mod Confirming
+pub mod Answered

@@ -6,8 +6,8 @@ use crate::{Coordinator, count};
 
 impl Coordinator {
     // How many moves the next opening can take at most: three for each database that an open job names.
-    pub fn most_moves(self) -> u32
-        ensures { result ≡ most_moves self }
+    pub fn most_moves(&self) -> u32
+        ensures { result ≡ most_moves self.now }
     {
         3 * count::count_all(&self.named)
     }

@@ -6,6 +6,7 @@ ghost use Rattle.coordinator.specs.Limits.{jobs, databases};
 ghost use Rattle.coordinator.specs.Views.{entry};
 ghost use Rattle.coordinator.specs.Change.{mark, lead_to};
 ghost use Rattle.coordinator.specs.Tables.{going_in};
+ghost use Rattle.coordinator.specs.Release.{release};
 
 use crate::Coordinator;
 use numbers::{Database, Slot};
@@ -28,12 +29,7 @@ pub(crate) fn mark(sets: &mut [u32; Coordinator::DATABASES], k: Database, j: Slo
 }
 
 // At database k, slot a goes before each of the later ones.
-pub(crate) fn lead_to(
-    dependencies: &mut [u32; Coordinator::STEPS],
-    k: Database,
-    a: Slot,
-    later: u32,
-)
+fn lead_to(dependencies: &mut [u32; Coordinator::STEPS], k: Database, a: Slot, later: u32)
     requires { (k.0 < databases) × (a.0 < jobs) }
     ensures { dependencies.new ≡ lead_to k.0 a.0 later dependencies.old }
 {
@@ -72,4 +68,17 @@ pub(crate) fn going_of(
         free = free | going(dependencies[first + j], confirmed, j);
     }
     mask::slots::less(asked, released) & free
+}
+
+impl Coordinator {
+    // The step of slot j at database k goes, before each that names the database and is not released.
+    pub(crate) fn release(&mut self, j: Slot, k: Database)
+        requires { (j.0 < jobs) × (k.0 < databases) }
+        ensures { self.new ≡ release self.old j.0 k.0 }
+    {
+        mark(&mut self.released, k, j);
+        let at = k.0 as usize;
+        let later = mask::slots::less(self.named[at], self.released[at]);
+        lead_to(&mut self.dependencies, k, j, later);
+    }
 }

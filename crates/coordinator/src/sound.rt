@@ -6,8 +6,8 @@ use crate::Coordinator;
 
 impl Coordinator {
     // Whether the state is sound: a call refuses one that isn't.
-    pub fn is_sound(self) -> bool
-        ensures { result ≡ sound self }
+    pub fn is_sound(&self) -> bool
+        ensures { result ≡ sound self.now }
     {
         tables::sound::all_sound(
             &self.tickets,

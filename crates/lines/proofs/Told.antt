@@ -1,7 +1,7 @@
 -- The numbers said of a record's answer, beside the state left, are what the record answers. Assumes nothing.
 use Prim.Native.Nat.{ℕ}
 use mathlib.Core.Bool.{Bool, true, false}
-use mathlib.Core.Option.{Option, some, none}
+use Rattle.std.specs.Prelude.{Option, Some, None}
 use mathlib.Core.Path.{◌≡◌, refl, ap, ◌∙◌}
 use lib.Dec.{eqb}
 use Rattle.coordinator.specs.declared.Coordinator.{Coordinator}
@@ -23,10 +23,10 @@ module _ (s : Coordinator) (kind database value : ℕ) where
       call : Bool → Bool → Bool → Bool → Option Call
       call a b c d =
           elim a [
-            | true ↦ some (open_job value)
+            | true ↦ Some (open_job value)
             | false ↦ elim b [
-              | true ↦ some (ask_step value database)
-              | false ↦ elim c [ true ↦ some (confirm_step value database) | false ↦ elim d [ true ↦ some (close_job value) | false ↦ none ] ]
+              | true ↦ Some (ask_step value database)
+              | false ↦ elim c [ true ↦ Some (confirm_step value database) | false ↦ elim d [ true ↦ Some (close_job value) | false ↦ None ] ]
             ]
           ]
 

@@ -1,14 +1,10 @@
 -- A call that no row refuses answers 0 for its number, and no refusal does. Assumes nothing.
 use Prim.Native.Nat.{ℕ}
 use mathlib.Core.Bool.{Bool, true, false}
-use mathlib.Core.Option.{none, some}
+use Rattle.std.specs.Prelude.{None, Some}
 use mathlib.Core.Path.{◌≡◌, refl, ap, ◌∙◌}
 use lib.Dec.{eqb}
 use Rattle.coordinator.specs.declared.Coordinator.{Coordinator}
-use Rattle.coordinator.specs.declared.answers.AfterOpen.{AfterOpen}
-use Rattle.coordinator.specs.declared.answers.AfterAsk.{AfterAsk}
-use Rattle.coordinator.specs.declared.answers.AfterConfirm.{AfterConfirm}
-use Rattle.coordinator.specs.declared.answers.AfterClose.{AfterClose}
 use Rattle.coordinator.specs.Holder.{holder}
 use Rattle.coordinator.specs.Change.{mark_asked, mark_confirmed}
 use Rattle.coordinator.specs.Release.{may_go, may_go_at, may_close}
@@ -27,37 +23,43 @@ use Rattle.promises.proofs.Opening as opening
 use Rattle.promises.proofs.Asking as asking
 use Rattle.promises.proofs.Confirming as confirming
 use Rattle.promises.proofs.Closing as closing
+use Rattle.coordinator.specs.declared.answers.After.{After}
+use Rattle.coordinator.specs.declared.answers.Opened.{Opened}
+use Rattle.coordinator.specs.declared.answers.Asked.{Asked}
+use Rattle.coordinator.specs.declared.answers.Closed.{Closed}
+use Rattle.numbers.specs.declared.Ticket.{Ticket}
+use Rattle.std.specs.Prelude.{Option}
 
 ask_zero : (s : Coordinator) (j k : ℕ) → (ask_values (asked_for s j k).answer).refusal ≡ 0
 ask_zero s j k = by (may_go (mark_asked s j k) j k) refl
   where
     by : (b : Bool) → may_go (mark_asked s j k) j k ≡ b → (ask_values (asked_for s j k).answer).refusal ≡ 0
-    by true e = ap (λ (r : AfterAsk). (ask_values r.answer).refusal) (ask_goes s j k e)
-    by false e = ap (λ (r : AfterAsk). (ask_values r.answer).refusal) (ask_waits s j k e)
+    by true e = ap (λ (r : After Asked). (ask_values r.answer).refusal) (ask_goes s j k e)
+    by false e = ap (λ (r : After Asked). (ask_values r.answer).refusal) (ask_waits s j k e)
 
 confirm_zero : (s : Coordinator) (j k : ℕ) → (confirm_values (confirmed_at s j k).answer).refusal ≡ 0
 unfolding released_one
 confirm_zero s j k = by (eqb (may_go_at (mark_confirmed s j k) k) 0) refl
   where
     by : (b : Bool) → eqb (may_go_at (mark_confirmed s j k) k) 0 ≡ b → (confirm_values (confirmed_at s j k).answer).refusal ≡ 0
-    by true e = ap (λ (r : AfterConfirm). (confirm_values r.answer).refusal) (confirm_none s j k e)
-    by false e = ap (λ (r : AfterConfirm). (confirm_values r.answer).refusal) (confirm_one s j k e)
+    by true e = ap (λ (r : After (Option Ticket)). (confirm_values r.answer).refusal) (confirm_none s j k e)
+    by false e = ap (λ (r : After (Option Ticket)). (confirm_values r.answer).refusal) (confirm_one s j k e)
 
 close_zero : (s : Coordinator) (j : ℕ) → (close_values (closed_at s j).answer (closed_at s j).tickets).refusal ≡ 0
 close_zero s j = by (may_close s j) refl
   where
     by : (b : Bool) → may_close s j ≡ b → (close_values (closed_at s j).answer (closed_at s j).tickets).refusal ≡ 0
-    by true e = ap (λ (r : AfterClose). (close_values r.answer r.tickets).refusal) (close_goes s j e)
-    by false e = ap (λ (r : AfterClose). (close_values r.answer r.tickets).refusal) (close_waits s j e)
+    by true e = ap (λ (r : After (Option Closed)). (close_values r.answer r.tickets).refusal) (close_goes s j e)
+    by false e = ap (λ (r : After (Option Closed)). (close_values r.answer r.tickets).refusal) (close_waits s j e)
 
-accepts : (s : Coordinator) (c : Call) → refusal_of s c ≡ none → (play s c).values.refusal ≡ 0
+accepts : (s : Coordinator) (c : Call) → refusal_of s c ≡ None → (play s c).values.refusal ≡ 0
 unfolding play accepted refusal_of
-accepts s (open_job mask) e = ap (λ (r : AfterOpen). (open_values r.answer).refusal) (open_taken s mask e)
-accepts s (ask_step t k) e = ap (λ (r : AfterAsk). (ask_values r.answer).refusal) (ask_taken s t k e) ∙ ask_zero s (holder s t) k
-accepts s (confirm_step t k) e = ap (λ (r : AfterConfirm). (confirm_values r.answer).refusal) (confirm_taken s t k e) ∙ confirm_zero s (holder s t) k
-accepts s (close_job t) e = ap (λ (r : AfterClose). (close_values r.answer r.tickets).refusal) (close_taken s t e) ∙ close_zero s (holder s t)
+accepts s (open_job mask) e = ap (λ (r : After Opened). (open_values r.answer).refusal) (open_taken s mask e)
+accepts s (ask_step t k) e = ap (λ (r : After Asked). (ask_values r.answer).refusal) (ask_taken s t k e) ∙ ask_zero s (holder s t) k
+accepts s (confirm_step t k) e = ap (λ (r : After (Option Ticket)). (confirm_values r.answer).refusal) (confirm_taken s t k e) ∙ confirm_zero s (holder s t) k
+accepts s (close_job t) e = ap (λ (r : After (Option Closed)). (close_values r.answer r.tickets).refusal) (close_taken s t e) ∙ close_zero s (holder s t)
 
-numbered : (s : Coordinator) (c : Call) (n : ℕ) → refusal_of s c ≡ some n → ¬ (n ≡ 0)
+numbered : (s : Coordinator) (c : Call) (n : ℕ) → refusal_of s c ≡ Some n → ¬ (n ≡ 0)
 unfolding refusal_of
 numbered s (open_job mask) n e = opening.refusal_numbered s mask n e
 numbered s (ask_step t k) n e = asking.refusal_numbered s t k n e

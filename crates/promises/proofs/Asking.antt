@@ -2,7 +2,7 @@
 use Prim.Native.Nat.{ℕ, ◌<◌}
 use native.Mathlib.Omega.{arith}
 use mathlib.Core.Bool.{Bool, true, false}
-use mathlib.Core.Option.{Option, none, some}
+use Rattle.std.specs.Prelude.{Option, None, Some}
 use mathlib.Core.Path.{◌≡◌, refl, sym, ◌∙◌, subst}
 use borrow.Author.Tests.{eq-eqb, ne_eqb}
 use Rattle.loops.proofs.Tests.{both}
@@ -10,8 +10,6 @@ use Rattle.rings.specs.Change.{releasing}
 use Rattle.rings.specs.Rule.{MayGo, StepWaits}
 use Rattle.rings.proofs.Calls.{ask_held_kept, ask_released_kept}
 use Rattle.coordinator.specs.declared.Coordinator.{Coordinator}
-use Rattle.coordinator.specs.declared.answers.AskAnswer.{AskAnswer}
-use Rattle.coordinator.specs.declared.answers.AfterAsk.{AfterAsk}
 use Rattle.coordinator.specs.Limits.{databases}
 use Rattle.coordinator.specs.Views.{names, asked, released, is_open}
 use Rattle.coordinator.specs.Holder.{holder}
@@ -38,6 +36,10 @@ use Rattle.soundness.proofs.Accepted.{ask_accepted}
 use Rattle.soundness.proofs.Arms.{ask_refused, ask_taken, ask_goes, ask_waits}
 use Rattle.soundness.proofs.Marks.{asked_sound}
 use Rattle.soundness.proofs.Release.{released_sound}
+use Rattle.coordinator.specs.declared.answers.After.{After}
+use Rattle.coordinator.specs.declared.answers.Asked.{Asked}
+use Rattle.refusals.specs.declared.refusal.Refusal.{Refusal}
+use Rattle.std.specs.Prelude.{Err}
 
 module _ (m : Moment) (I : Invariant m) (k j : ℕ) (l : k < databases) (o : is_open m.state j ≡ true) (n : names m.state j k ≡ true) (u : asked m.state j k ≡ false) where
   abbrev s : Coordinator
@@ -103,23 +105,23 @@ module _ (m : Moment) (I : Invariant m) (k j : ℕ) (l : k < databases) (o : is_
 -- the call, by what the table and the test say
 
 module _ (s : Coordinator) (t k : ℕ) where
-  pub refusal_numbered : (n : ℕ) → ask_refusal s t k ≡ some n → ¬ (n ≡ 0)
+  pub refusal_numbered : (n : ℕ) → ask_refusal s t k ≡ Some n → ¬ (n ≡ 0)
   unfolding ask_refusal step_refusal
   refusal_numbered n e = numbered _ n (omega arith, (omega arith, (omega arith, (omega arith, (omega arith, tt))))) e
 
 module _ (m : Moment) (I : Invariant m) (t k : ℕ) where
-  abbrev left : AfterAsk → Moment
+  abbrev left : After Asked → Moment
   left r = record { told = tell m.told (ask_step t k) (ask_values r.answer); state = r.state }
 
   next_is : next m (ask_step t k) ≡ left (after_ask m.state t k)
   unfolding next play
   next_is = refl
 
-  refused : (n : ℕ) → ask_refusal m.state t k ≡ some n → Invariant (left (record { answer = AskAnswer.Refused n; state = m.state }))
+  refused : (n : ℕ) → ask_refusal m.state t k ≡ Some n → Invariant (left (record { answer = Err n; state = m.state }))
   unfolding tell
   refused n e = rw (tell, ne_eqb n 0 (refusal_numbered m.state t k n e)) I
 
-  taken : ask_refusal m.state t k ≡ none → Invariant (left (asked_for m.state (holder m.state t) k))
+  taken : ask_refusal m.state t k ≡ None → Invariant (left (asked_for m.state (holder m.state t) k))
   unfolding tell
   taken e = by (may_go (mark_asked m.state j k) j k) refl
     where
@@ -137,17 +139,17 @@ module _ (m : Moment) (I : Invariant m) (t k : ℕ) where
 
       by : (b : Bool) → may_go (mark_asked m.state j k) j k ≡ b → Invariant (left (asked_for m.state j k))
       by true g =
-          subst (λ (r : AfterAsk). Invariant (left r)) (sym (ask_goes m.state j k g))
+          subst (λ (r : After Asked). Invariant (left r)) (sym (ask_goes m.state j k g))
           (subst (λ (a : ℕ). Invariant (record { told = released_told (asked_told m.told a k) a k; state = release (mark_asked m.state j k) j k })) same
           (goes m I k j A.database o A.named A.unasked g))
       by false g =
-          subst (λ (r : AfterAsk). Invariant (left r)) (sym (ask_waits m.state j k g))
+          subst (λ (r : After Asked). Invariant (left r)) (sym (ask_waits m.state j k g))
           (subst (λ (a : ℕ). Invariant (record { told = asked_told m.told a k; state = mark_asked m.state j k })) same
           (held m I k j A.database o A.named A.unasked g))
 
   pub ask_next : Invariant (next m (ask_step t k))
   ask_next = subst Invariant (sym next_is) (by (ask_refusal m.state t k) refl)
     where
-      by : (r : Option ℕ) → ask_refusal m.state t k ≡ r → Invariant (left (after_ask m.state t k))
-      by none e = subst (λ (r : AfterAsk). Invariant (left r)) (sym (ask_taken m.state t k e)) (taken e)
-      by (some n) e = subst (λ (r : AfterAsk). Invariant (left r)) (sym (ask_refused m.state t k n e)) (refused n e)
+      by : (r : Option Refusal) → ask_refusal m.state t k ≡ r → Invariant (left (after_ask m.state t k))
+      by None e = subst (λ (r : After Asked). Invariant (left r)) (sym (ask_taken m.state t k e)) (taken e)
+      by (Some n) e = subst (λ (r : After Asked). Invariant (left r)) (sym (ask_refused m.state t k n e)) (refused n e)

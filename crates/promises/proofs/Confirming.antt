@@ -2,7 +2,7 @@
 use Prim.Native.Nat.{ℕ, ◌<◌}
 use native.Mathlib.Omega.{arith}
 use mathlib.Core.Bool.{Bool, true, false, not, ◌&&◌}
-use mathlib.Core.Option.{Option, none, some}
+use Rattle.std.specs.Prelude.{Option, None, Some}
 use mathlib.Core.Path.{◌≡◌, refl, sym, ◌∙◌, subst}
 use borrow.Author.Tests.{eqb-true, eqb-false, ne_eqb, not-true}
 use lib.Dec.{eqb}
@@ -11,8 +11,6 @@ use Rattle.rings.specs.Change.{confirming, releasing}
 use Rattle.rings.specs.Rule.{Pending, MayGo, StepWaits}
 use Rattle.rings.proofs.Calls.{confirm_kept, confirm_released_kept}
 use Rattle.coordinator.specs.declared.Coordinator.{Coordinator}
-use Rattle.coordinator.specs.declared.answers.ConfirmAnswer.{ConfirmAnswer}
-use Rattle.coordinator.specs.declared.answers.AfterConfirm.{AfterConfirm}
 use Rattle.coordinator.specs.Limits.{jobs, databases}
 use Rattle.coordinator.specs.Views.{asked, released, is_open}
 use Rattle.coordinator.specs.Holder.{holder}
@@ -43,6 +41,10 @@ use Rattle.soundness.proofs.Accepted.{confirm_accepted}
 use Rattle.soundness.proofs.Arms.{confirm_refused, confirm_taken, confirm_none, confirm_one}
 use Rattle.soundness.proofs.Marks.{confirmed_sound}
 use Rattle.soundness.proofs.Release.{released_sound}
+use Rattle.coordinator.specs.declared.answers.After.{After}
+use Rattle.numbers.specs.declared.Ticket.{Ticket}
+use Rattle.refusals.specs.declared.refusal.Refusal.{Refusal}
+use Rattle.std.specs.Prelude.{Err}
 
 module _ (m : Moment) (I : Invariant m) (k j : ℕ) (l : k < databases) (o : is_open m.state j ≡ true) (n : released m.state j k ≡ true) where
   abbrev s : Coordinator
@@ -119,23 +121,23 @@ module _ (m : Moment) (I : Invariant m) (k j : ℕ) (l : k < databases) (o : is_
 -- the call, by what the table and the test say
 
 module _ (s : Coordinator) (t k : ℕ) where
-  pub refusal_numbered : (n : ℕ) → confirm_refusal s t k ≡ some n → ¬ (n ≡ 0)
+  pub refusal_numbered : (n : ℕ) → confirm_refusal s t k ≡ Some n → ¬ (n ≡ 0)
   unfolding confirm_refusal step_refusal
   refusal_numbered n e = numbered _ n (omega arith, (omega arith, (omega arith, (omega arith, (omega arith, tt))))) e
 
 module _ (m : Moment) (I : Invariant m) (t k : ℕ) where
-  abbrev left : AfterConfirm → Moment
+  abbrev left : After (Option Ticket) → Moment
   left r = record { told = tell m.told (confirm_step t k) (confirm_values r.answer); state = r.state }
 
   next_is : next m (confirm_step t k) ≡ left (after_confirm m.state t k)
   unfolding next play
   next_is = refl
 
-  refused : (n : ℕ) → confirm_refusal m.state t k ≡ some n → Invariant (left (record { answer = ConfirmAnswer.Refused n; state = m.state }))
+  refused : (n : ℕ) → confirm_refusal m.state t k ≡ Some n → Invariant (left (record { answer = Err n; state = m.state }))
   unfolding tell
   refused n e = rw (tell, ne_eqb n 0 (refusal_numbered m.state t k n e)) I
 
-  taken : confirm_refusal m.state t k ≡ none → Invariant (left (confirmed_at m.state (holder m.state t) k))
+  taken : confirm_refusal m.state t k ≡ None → Invariant (left (confirmed_at m.state (holder m.state t) k))
   unfolding tell released_one
   taken e = by (eqb (may_go_at u k) 0) refl
     where
@@ -172,14 +174,14 @@ module _ (m : Moment) (I : Invariant m) (t k : ℕ) where
 
       by : (b : Bool) → eqb (may_go_at u k) 0 ≡ b → Invariant (left (confirmed_at m.state j k))
       by true g =
-          subst (λ (r : AfterConfirm). Invariant (left r)) (sym (confirm_none m.state j k g))
+          subst (λ (r : After (Option Ticket)). Invariant (left r)) (sym (confirm_none m.state j k g))
           (subst (λ (a : ℕ). Invariant (record { told = confirmed_told m.told a k; state = u })) same
           (nobody m I k j A.database o A.is_released (eqb-true (may_go_at u k) 0 g)))
-      by false g = subst (λ (r : AfterConfirm). Invariant (left r)) (sym (confirm_one m.state j k g)) (goer (eqb-false (may_go_at u k) 0 g))
+      by false g = subst (λ (r : After (Option Ticket)). Invariant (left r)) (sym (confirm_one m.state j k g)) (goer (eqb-false (may_go_at u k) 0 g))
 
   pub confirm_next : Invariant (next m (confirm_step t k))
   confirm_next = subst Invariant (sym next_is) (by (confirm_refusal m.state t k) refl)
     where
-      by : (r : Option ℕ) → confirm_refusal m.state t k ≡ r → Invariant (left (after_confirm m.state t k))
-      by none e = subst (λ (r : AfterConfirm). Invariant (left r)) (sym (confirm_taken m.state t k e)) (taken e)
-      by (some n) e = subst (λ (r : AfterConfirm). Invariant (left r)) (sym (confirm_refused m.state t k n e)) (refused n e)
+      by : (r : Option Refusal) → confirm_refusal m.state t k ≡ r → Invariant (left (after_confirm m.state t k))
+      by None e = subst (λ (r : After (Option Ticket)). Invariant (left r)) (sym (confirm_taken m.state t k e)) (taken e)
+      by (Some n) e = subst (λ (r : After (Option Ticket)). Invariant (left r)) (sym (confirm_refused m.state t k n e)) (refused n e)

@@ -4,7 +4,7 @@ use native.Mathlib.Omega.{arith}
 use native.Mathlib.Nat.{lt_irrefl}
 use mathlib.Core.Bool.{Bool, true, false}
 use mathlib.Core.Logic.{◌↔◌}
-use mathlib.Core.Option.{Option, none, some}
+use Rattle.std.specs.Prelude.{Option, None, Some}
 use mathlib.Core.Path.{◌≡◌, refl, sym, subst}
 use borrow.Author.Tests.{ne_eqb}
 use Rattle.mask.specs.Member.{holds}
@@ -12,8 +12,6 @@ use Rattle.numbers.specs.Ticket.{after}
 use Rattle.rings.specs.Change.{opening}
 use Rattle.rings.proofs.Calls.{open_kept}
 use Rattle.coordinator.specs.declared.Coordinator.{Coordinator}
-use Rattle.coordinator.specs.declared.answers.OpenAnswer.{OpenAnswer}
-use Rattle.coordinator.specs.declared.answers.AfterOpen.{AfterOpen}
 use Rattle.coordinator.specs.Limits.{jobs}
 use Rattle.coordinator.specs.Shape.{Shape}
 use Rattle.coordinator.specs.Sound.{Sound}
@@ -39,6 +37,10 @@ use Rattle.soundness.proofs.GivenOut.{ticket_unheld}
 use Rattle.soundness.proofs.Open.{opened_sound}
 use Rattle.soundness.proofs.Accepted.{open_accepted}
 use Rattle.soundness.proofs.Arms.{open_refused, open_taken}
+use Rattle.coordinator.specs.declared.answers.After.{After}
+use Rattle.coordinator.specs.declared.answers.Opened.{Opened}
+use Rattle.refusals.specs.declared.refusal.Refusal.{Refusal}
+use Rattle.std.specs.Prelude.{Err}
 
 -- a free slot shows nothing of a job
 free_at : (s : Coordinator) → Shape s → Sound s → (n : ℕ) → n < jobs → is_open s n ≡ false → FreeAt (view s) n
@@ -109,29 +111,29 @@ module _ (m : Moment) (I : Invariant m) (mask : ℕ) (fits : mask < 2 ^ 16) (som
 -- the call, by what the table says
 
 module _ (s : Coordinator) (mask : ℕ) where
-  pub refusal_numbered : (n : ℕ) → open_refusal s mask ≡ some n → ¬ (n ≡ 0)
+  pub refusal_numbered : (n : ℕ) → open_refusal s mask ≡ Some n → ¬ (n ≡ 0)
   unfolding open_refusal slot_refusal
   refusal_numbered n e = numbered _ n (omega arith, (omega arith, (omega arith, tt))) e
 
 module _ (m : Moment) (I : Invariant m) (mask : ℕ) (fits : mask < 2 ^ 16) where
-  abbrev left : AfterOpen → Moment
+  abbrev left : After Opened → Moment
   left r = record { told = tell m.told (open_job mask) (open_values r.answer); state = r.state }
 
   next_is : next m (open_job mask) ≡ left (after_open m.state mask)
   unfolding next play
   next_is = refl
 
-  refused : (n : ℕ) → open_refusal m.state mask ≡ some n → Invariant (left (record { answer = OpenAnswer.Refused n; state = m.state }))
+  refused : (n : ℕ) → open_refusal m.state mask ≡ Some n → Invariant (left (record { answer = Err n; state = m.state }))
   unfolding tell
   refused n e = rw (tell, ne_eqb n 0 (refusal_numbered m.state mask n e)) I
 
-  taken : open_refusal m.state mask ≡ none → Invariant (left (accepted m.state (free_slot m.state) mask))
+  taken : open_refusal m.state mask ≡ None → Invariant (left (accepted m.state (free_slot m.state) mask))
   unfolding tell accepted
   taken r = let A = open_accepted m.state I.shape mask r in opens m I mask fits A.some A.room
 
   pub open_next : Invariant (next m (open_job mask))
   open_next = subst Invariant (sym next_is) (by (open_refusal m.state mask) refl)
     where
-      by : (r : Option ℕ) → open_refusal m.state mask ≡ r → Invariant (left (after_open m.state mask))
-      by none e = subst (λ (r : AfterOpen). Invariant (left r)) (sym (open_taken m.state mask e)) (taken e)
-      by (some n) e = subst (λ (r : AfterOpen). Invariant (left r)) (sym (open_refused m.state mask n e)) (refused n e)
+      by : (r : Option Refusal) → open_refusal m.state mask ≡ r → Invariant (left (after_open m.state mask))
+      by None e = subst (λ (r : After Opened). Invariant (left r)) (sym (open_taken m.state mask e)) (taken e)
+      by (Some n) e = subst (λ (r : After Opened). Invariant (left r)) (sym (open_refused m.state mask n e)) (refused n e)

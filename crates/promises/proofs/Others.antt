@@ -2,13 +2,12 @@
 use Prim.Native.Nat.{ℕ}
 use native.Mathlib.Omega.{arith}
 use mathlib.Core.Bool.{Bool, true, false, not, ◌&&◌}
-use mathlib.Core.Option.{none}
+use Rattle.std.specs.Prelude.{None}
 use mathlib.Core.Path.{◌≡◌, refl, sym, ◌∙◌, subst}
 use borrow.Author.Tests.{eqb-false, not-true}
 use lib.Dec.{eqb}
 use Rattle.loops.proofs.Tests.{and_left, and_right}
 use Rattle.coordinator.specs.declared.Coordinator.{Coordinator}
-use Rattle.coordinator.specs.declared.answers.AfterConfirm.{AfterConfirm}
 use Rattle.coordinator.specs.Shape.{Shape}
 use Rattle.coordinator.specs.Sound.{Sound}
 use Rattle.coordinator.specs.Views.{asked, released}
@@ -24,8 +23,11 @@ use Rattle.soundness.proofs.Marks.{confirmed_sound}
 use Rattle.soundness.proofs.Accepted.{confirm_accepted}
 use Rattle.soundness.proofs.Arms.{confirm_taken, confirm_none, confirm_one}
 use Rattle.soundness.proofs.Holds.{release_holds}
+use Rattle.coordinator.specs.declared.answers.After.{After}
+use Rattle.numbers.specs.declared.Ticket.{Ticket}
+use Rattle.std.specs.Prelude.{Option}
 
-module _ (s : Coordinator) (t k : ℕ) (S : Shape s) (X : Sound s) (e : confirm_refusal s t k ≡ none) where
+module _ (s : Coordinator) (t k : ℕ) (S : Shape s) (X : Sound s) (e : confirm_refusal s t k ≡ None) where
   abbrev j : ℕ
   j = holder s t
 
@@ -35,7 +37,7 @@ module _ (s : Coordinator) (t k : ℕ) (S : Shape s) (X : Sound s) (e : confirm_
   abbrev f : ℕ
   f = first_of c (may_go_at c k)
 
-  abbrev left : AfterConfirm → Played
+  abbrev left : After (Option Ticket) → Played
   left r = record { values = confirm_values r.answer; state = r.state }
 
   abbrev pub Settled : Played → Type 0
@@ -52,9 +54,9 @@ module _ (s : Coordinator) (t k : ℕ) (S : Shape s) (X : Sound s) (e : confirm_
       (not-true (released c f k) (and_right (asked c f k) (not (released c f k)) g₁))
 
   by_arm : (b : Bool) → eqb (may_go_at c k) 0 ≡ b → Settled (left (confirmed_at s j k))
-  by_arm true g = subst (λ (r : AfterConfirm). Settled (left r)) (sym (confirm_none s j k g)) (λ r. absurd (omega arith))
-  by_arm false g = subst (λ (r : AfterConfirm). Settled (left r)) (sym (confirm_one s j k g)) (one (eqb-false (may_go_at c k) 0 g))
+  by_arm true g = subst (λ (r : After (Option Ticket)). Settled (left r)) (sym (confirm_none s j k g)) (λ r. absurd (omega arith))
+  by_arm false g = subst (λ (r : After (Option Ticket)). Settled (left r)) (sym (confirm_one s j k g)) (one (eqb-false (may_go_at c k) 0 g))
 
   pub holds_others : Settled (play s (confirm_step t k))
   unfolding play
-  holds_others = subst (λ (r : AfterConfirm). Settled (left r)) (sym (confirm_taken s t k e)) (by_arm (eqb (may_go_at c k) 0) refl)
+  holds_others = subst (λ (r : After (Option Ticket)). Settled (left r)) (sym (confirm_taken s t k e)) (by_arm (eqb (may_go_at c k) 0) refl)

@@ -11,10 +11,6 @@ use Rattle.tables.specs.Test.{sound_in}
 use Rattle.tables.specs.Limits.{jobs}
 use Rattle.refusals.specs.Refusal.{number_of, slot_refusal, step_refusal, job_refusal}
 use Rattle.coordinator.specs.declared.Coordinator.{Coordinator}
-use Rattle.coordinator.specs.declared.answers.AfterOpen.{AfterOpen}
-use Rattle.coordinator.specs.declared.answers.AfterAsk.{AfterAsk}
-use Rattle.coordinator.specs.declared.answers.AfterConfirm.{AfterConfirm}
-use Rattle.coordinator.specs.declared.answers.AfterClose.{AfterClose}
 use Rattle.coordinator.specs.Fresh.{fresh}
 use Rattle.coordinator.specs.Test.{sound}
 use Rattle.coordinator.specs.Bound.{most_moves}
@@ -22,21 +18,27 @@ use Rattle.coordinator.specs.Open.{after_open, after_open_tested}
 use Rattle.coordinator.specs.Ask.{after_ask, after_ask_tested}
 use Rattle.coordinator.specs.Confirm.{after_confirm, after_confirm_tested}
 use Rattle.coordinator.specs.Close.{after_close, after_close_tested}
+use Rattle.coordinator.specs.declared.answers.After.{After}
+use Rattle.coordinator.specs.declared.answers.Opened.{Opened}
+use Rattle.coordinator.specs.declared.answers.Asked.{Asked}
+use Rattle.coordinator.specs.declared.answers.Closed.{Closed}
+use Rattle.numbers.specs.declared.Ticket.{Ticket}
+use Rattle.std.specs.Prelude.{Option}
 
 abbrev pub Determines : {A : Type 0} → (A → Type 0) → Type 0
 Determines {A} P = (x y : A) → P x → P y → x ≡ y
 
 pub record Determined : Type 0 where
   -- the coordinator
-  pub open_job : (s : Coordinator) (mask : ℕ) → Determines (λ (r : AfterOpen). r ≡ after_open s mask)
-  pub ask : (s : Coordinator) (t k : ℕ) → Determines (λ (r : AfterAsk). r ≡ after_ask s t k)
-  pub confirm : (s : Coordinator) (t k : ℕ) → Determines (λ (r : AfterConfirm). r ≡ after_confirm s t k)
-  pub close : (s : Coordinator) (t : ℕ) → Determines (λ (r : AfterClose). r ≡ after_close s t)
+  pub open_job : (s : Coordinator) (mask : ℕ) → Determines (λ (r : After Opened). r ≡ after_open s mask)
+  pub ask : (s : Coordinator) (t k : ℕ) → Determines (λ (r : After Asked). r ≡ after_ask s t k)
+  pub confirm : (s : Coordinator) (t k : ℕ) → Determines (λ (r : After (Option Ticket)). r ≡ after_confirm s t k)
+  pub close : (s : Coordinator) (t : ℕ) → Determines (λ (r : After (Option Closed)). r ≡ after_close s t)
   -- and given whether the state is sound, the tables put together
-  pub open_tested : (b : Bool) (s : Coordinator) (mask : ℕ) → Determines (λ (r : AfterOpen). r ≡ after_open_tested b s mask)
-  pub ask_tested : (b : Bool) (s : Coordinator) (t k : ℕ) → Determines (λ (r : AfterAsk). r ≡ after_ask_tested b s t k)
-  pub confirm_tested : (b : Bool) (s : Coordinator) (t k : ℕ) → Determines (λ (r : AfterConfirm). r ≡ after_confirm_tested b s t k)
-  pub close_tested : (b : Bool) (s : Coordinator) (t : ℕ) → Determines (λ (r : AfterClose). r ≡ after_close_tested b s t)
+  pub open_tested : (b : Bool) (s : Coordinator) (mask : ℕ) → Determines (λ (r : After Opened). r ≡ after_open_tested b s mask)
+  pub ask_tested : (b : Bool) (s : Coordinator) (t k : ℕ) → Determines (λ (r : After Asked). r ≡ after_ask_tested b s t k)
+  pub confirm_tested : (b : Bool) (s : Coordinator) (t k : ℕ) → Determines (λ (r : After (Option Ticket)). r ≡ after_confirm_tested b s t k)
+  pub close_tested : (b : Bool) (s : Coordinator) (t : ℕ) → Determines (λ (r : After (Option Closed)). r ≡ after_close_tested b s t)
   pub start : (n : ℕ) → Determines (λ (r : Coordinator). r ≡ fresh n)
   pub is_sound : (s : Coordinator) → Determines (λ (r : Bool). r ≡ sound s)
   pub most_moves : (s : Coordinator) → Determines (λ (r : ℕ). r ≡ most_moves s)

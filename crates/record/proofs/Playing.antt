@@ -2,18 +2,10 @@
 use Prim.Native.Nat.{ℕ}
 use mathlib.Core.Bool.{Bool}
 use mathlib.Core.List.{List, []}
-use mathlib.Core.Option.{Option, none, some}
+use Rattle.std.specs.Prelude.{Option, None, Some}
 use mathlib.Core.Path.{◌≡◌, refl, sym, ap, subst, ◌∙◌}
 use lib.ListN.{get_or, replicate}
 use Rattle.coordinator.specs.declared.Coordinator.{Coordinator}
-use Rattle.coordinator.specs.declared.answers.OpenAnswer.{OpenAnswer}
-use Rattle.coordinator.specs.declared.answers.AskAnswer.{AskAnswer}
-use Rattle.coordinator.specs.declared.answers.ConfirmAnswer.{ConfirmAnswer}
-use Rattle.coordinator.specs.declared.answers.CloseAnswer.{CloseAnswer}
-use Rattle.coordinator.specs.declared.answers.AfterOpen.{AfterOpen}
-use Rattle.coordinator.specs.declared.answers.AfterAsk.{AfterAsk}
-use Rattle.coordinator.specs.declared.answers.AfterConfirm.{AfterConfirm}
-use Rattle.coordinator.specs.declared.answers.AfterClose.{AfterClose}
 use Rattle.coordinator.specs.Limits.{jobs}
 use Rattle.coordinator.specs.Test.{sound}
 use Rattle.coordinator.specs.Open.{after_open_tested}
@@ -28,6 +20,11 @@ use Rattle.record.specs.declared.answer.Answer.{Answer}
 use Rattle.record.specs.Answer.{numbers_of, answer}
 use Rattle.record.specs.Tested.{answer_tested, Plays}
 use Rattle.record.proofs.Tickets.{none_there, Told, close_told}
+use Rattle.coordinator.specs.declared.answers.After.{After}
+use Rattle.coordinator.specs.declared.answers.Opened.{Opened}
+use Rattle.coordinator.specs.declared.answers.Asked.{Asked}
+use Rattle.coordinator.specs.declared.answers.Closed.{Closed}
+use Rattle.numbers.specs.declared.Ticket.{Ticket}
 
 no_opened : (a : OpenAnswer) → (open_values a).tickets ≡ []
 no_opened (OpenAnswer.Refused n) = refl
@@ -61,38 +58,38 @@ blank p q a n e z b v = subst (λ (x : Played). Plays x a p.state) e (record {
 })
 
 module _ (isSound : Bool) (s : Coordinator) (a : Answer) (n : Numbers) where
-  pub open_plays : (mask : ℕ) (r : AfterOpen) → r ≡ after_open_tested isSound s mask → n ≡ numbers_of (open_values r.answer) → a ≡ Blank n
-      → Plays (answer_tested isSound s (some (open_job mask))) a r.state
+  pub open_plays : (mask : ℕ) (r : After Opened) → r ≡ after_open_tested isSound s mask → n ≡ numbers_of (open_values r.answer) → a ≡ Blank n
+      → Plays (answer_tested isSound s (Some (open_job mask))) a r.state
   unfolding answer_tested
   open_plays mask r e v b =
       blank (record { values = open_values r.answer; state = r.state }) _ a n
-      (ap {B = Played} (λ (x : AfterOpen). record { values = open_values x.answer; state = x.state }) e) (no_opened r.answer) b v
+      (ap {B = Played} (λ (x : After Opened). record { values = open_values x.answer; state = x.state }) e) (no_opened r.answer) b v
 
-  pub ask_plays : (t k : ℕ) (r : AfterAsk) → r ≡ after_ask_tested isSound s t k → n ≡ numbers_of (ask_values r.answer) → a ≡ Blank n
-      → Plays (answer_tested isSound s (some (ask_step t k))) a r.state
+  pub ask_plays : (t k : ℕ) (r : After Asked) → r ≡ after_ask_tested isSound s t k → n ≡ numbers_of (ask_values r.answer) → a ≡ Blank n
+      → Plays (answer_tested isSound s (Some (ask_step t k))) a r.state
   unfolding answer_tested
   ask_plays t k r e v b =
       blank (record { values = ask_values r.answer; state = r.state }) _ a n
-      (ap {B = Played} (λ (x : AfterAsk). record { values = ask_values x.answer; state = x.state }) e) (no_asked r.answer) b v
+      (ap {B = Played} (λ (x : After Asked). record { values = ask_values x.answer; state = x.state }) e) (no_asked r.answer) b v
 
-  pub confirm_plays : (t k : ℕ) (r : AfterConfirm) → r ≡ after_confirm_tested isSound s t k → n ≡ numbers_of (confirm_values r.answer) → a ≡ Blank n
-      → Plays (answer_tested isSound s (some (confirm_step t k))) a r.state
+  pub confirm_plays : (t k : ℕ) (r : After (Option Ticket)) → r ≡ after_confirm_tested isSound s t k → n ≡ numbers_of (confirm_values r.answer) → a ≡ Blank n
+      → Plays (answer_tested isSound s (Some (confirm_step t k))) a r.state
   unfolding answer_tested
   confirm_plays t k r e v b =
       blank (record { values = confirm_values r.answer; state = r.state }) _ a n
-      (ap {B = Played} (λ (x : AfterConfirm). record { values = confirm_values x.answer; state = x.state }) e) (no_confirmed r.answer) b v
+      (ap {B = Played} (λ (x : After (Option Ticket)). record { values = confirm_values x.answer; state = x.state }) e) (no_confirmed r.answer) b v
 
-  pub none_plays : n ≡ numbers_of (refused 11) → a ≡ Blank n → Plays (answer_tested isSound s none) a s
+  pub none_plays : n ≡ numbers_of (refused 11) → a ≡ Blank n → Plays (answer_tested isSound s None) a s
   unfolding answer_tested
   none_plays v b = blank (record { values = refused 11; state = s }) _ a n refl refl b v
 
-pub close_plays : (isSound : Bool) (s : Coordinator) (t : ℕ) (n : Numbers) (r : AfterClose) → r ≡ after_close_tested isSound s t → n ≡ numbers_of (close_values r.answer [])
-    → Plays (answer_tested isSound s (some (close_job t))) (record { numbers = n; tickets = r.tickets }) r.state
+pub close_plays : (isSound : Bool) (s : Coordinator) (t : ℕ) (n : Numbers) (r : After (Option Closed)) → r ≡ after_close_tested isSound s t → n ≡ numbers_of (close_values r.answer [])
+    → Plays (answer_tested isSound s (Some (close_job t))) (record { numbers = n; tickets = r.tickets }) r.state
 unfolding answer_tested
 close_plays isSound s t n r e v = record {
-  numbers = v ∙ any_tickets r.answer r.tickets ∙ ap (λ (x : AfterClose). numbers_of (close_values x.answer x.tickets)) e;
-  tickets = λ i. ap (λ (x : AfterClose). get_or (close_values x.answer x.tickets).tickets i 0) (sym e) ∙ subst Told (sym e) (close_told isSound s t) i;
-  state = ap (λ (x : AfterClose). x.state) e;
+  numbers = v ∙ any_tickets r.answer r.tickets ∙ ap (λ (x : After (Option Closed)). numbers_of (close_values x.answer x.tickets)) e;
+  tickets = λ i. ap (λ (x : After (Option Closed)). get_or (close_values x.answer x.tickets).tickets i 0) (sym e) ∙ subst Told (sym e) (close_told isSound s t) i;
+  state = ap (λ (x : After (Option Closed)). x.state) e;
 }
 
 -- the same call, read otherwise
@@ -102,11 +99,11 @@ as_call isSound s c d {a} {r} e p = subst (λ (x : Option Call). Plays (answer_t
 -- for the callers: where the test was made
 tested_is : (isSound : Bool) (s : Coordinator) → isSound ≡ sound s → (c : Option Call) → answer_tested isSound s c ≡ answer s c
 unfolding answer_tested answer play
-tested_is isSound s e none = refl
-tested_is isSound s e (some (open_job mask)) = ap {B = Played} (λ (x : AfterOpen). record { values = open_values x.answer; state = x.state }) (open_is s isSound e mask)
-tested_is isSound s e (some (ask_step t k)) = ap {B = Played} (λ (x : AfterAsk). record { values = ask_values x.answer; state = x.state }) (ask_is s isSound e t k)
-tested_is isSound s e (some (confirm_step t k)) = ap {B = Played} (λ (x : AfterConfirm). record { values = confirm_values x.answer; state = x.state }) (confirm_is s isSound e t k)
-tested_is isSound s e (some (close_job t)) = ap {B = Played} (λ (x : AfterClose). record { values = close_values x.answer x.tickets; state = x.state }) (close_is s isSound e t)
+tested_is isSound s e None = refl
+tested_is isSound s e (Some (open_job mask)) = ap {B = Played} (λ (x : After Opened). record { values = open_values x.answer; state = x.state }) (open_is s isSound e mask)
+tested_is isSound s e (Some (ask_step t k)) = ap {B = Played} (λ (x : After Asked). record { values = ask_values x.answer; state = x.state }) (ask_is s isSound e t k)
+tested_is isSound s e (Some (confirm_step t k)) = ap {B = Played} (λ (x : After (Option Ticket)). record { values = confirm_values x.answer; state = x.state }) (confirm_is s isSound e t k)
+tested_is isSound s e (Some (close_job t)) = ap {B = Played} (λ (x : After (Option Closed)). record { values = close_values x.answer x.tickets; state = x.state }) (close_is s isSound e t)
 
 pub plays_tested : (isSound : Bool) (s : Coordinator) (c : Option Call) (a : Answer) (r : Coordinator) → isSound ≡ sound s → Plays (answer_tested isSound s c) a r → Plays (answer s c) a r
 plays_tested isSound s c a r e p = subst (λ (x : Played). Plays x a r) (tested_is isSound s e c) p

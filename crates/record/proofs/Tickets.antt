@@ -3,14 +3,12 @@ use Prim.Native.Nat.{ℕ, zero, suc, ◌≤◌}
 use mathlib.Core.Path.{◌≡◌, refl, sym, ◌∙◌}
 use mathlib.Core.Bool.{Bool, true, false}
 use mathlib.Core.List.{List, [], ◌∷◌}
-use mathlib.Core.Option.{Option, none, some}
+use Rattle.std.specs.Prelude.{Option, None, Some}
 use native.Mathlib.Omega.{arith}
 use lib.Dec.{eqb}
 use lib.ListN.{get_or, take, replicate}
 use lib.Seq.{get_or-set_other}
 use Rattle.coordinator.specs.declared.Coordinator.{Coordinator}
-use Rattle.coordinator.specs.declared.answers.AfterClose.{AfterClose}
-use Rattle.coordinator.specs.declared.answers.CloseAnswer.{CloseAnswer}
 use Rattle.coordinator.specs.Limits.{jobs}
 use Rattle.coordinator.specs.Views.{ticket}
 use Rattle.coordinator.specs.Holder.{holder}
@@ -18,6 +16,10 @@ use Rattle.coordinator.specs.Refusal.{close_refusal_tested}
 use Rattle.coordinator.specs.Release.{may_close, may_close_now, first_of}
 use Rattle.coordinator.specs.Answer.{close_values}
 use Rattle.coordinator.specs.Close.{Closing, no_tickets, close_one, close_held, closing, closed_at, after_close_tested}
+use Rattle.coordinator.specs.declared.answers.After.{After}
+use Rattle.coordinator.specs.declared.answers.Closed.{Closed}
+use Rattle.refusals.specs.declared.refusal.Refusal.{Refusal}
+use Rattle.std.specs.Prelude.{Err}
 
 -- no tickets, and an array of zeros
 pub none_there : (n i : ℕ) → ◌≡◌ {A = ℕ} (get_or [] i 0) (get_or (replicate n 0) i 0)
@@ -57,16 +59,16 @@ unfolding closing
 all_closed s j = held_closed jobs _ (one_closed (record { count = 0; tickets = replicate jobs 0; state = s }) j (λ i m. sym (none_there jobs i)))
 
 -- the tickets beside a close's answer are those that it tells, and zeros
-abbrev pub Told : AfterClose → Type 0
+abbrev pub Told : After (Option Closed) → Type 0
 Told r = (i : ℕ) → get_or (close_values r.answer r.tickets).tickets i 0 ≡ get_or r.tickets i 0
 
 closed_told_lem : (s : Coordinator) (j : ℕ) → Told (closed_at s j)
 unfolding closed_at
 closed_told_lem s j = either Told (may_close s j) _ _ (front (closing s j).count (closing s j).tickets (all_closed s j)) (none_there jobs)
 
-refused_told : (s : Coordinator) (o : Option ℕ) (r : AfterClose) → Told r → Told (elim o [ none ↦ r | some n ↦ record { answer = CloseAnswer.Refused n; tickets = no_tickets; state = s } ])
-refused_told s none r h = h
-refused_told s (some n) r h = none_there jobs
+refused_told : (s : Coordinator) (o : Option Refusal) (r : After (Option Closed)) → Told r → Told (elim o [ None ↦ r | Some n ↦ record { answer = Err n; state = s } ])
+refused_told s None r h = h
+refused_told s (Some n) r h = none_there jobs
 
 pub close_told : (b : Bool) (s : Coordinator) (t : ℕ) → Told (after_close_tested b s t)
 unfolding after_close_tested

@@ -3,7 +3,7 @@ use Prim.Native.Nat.{ℕ}
 use native.Mathlib.Omega.{arith}
 use mathlib.Core.Bool.{Bool, true, false, not, ◌||◌}
 use mathlib.Core.List.{List, ◌∷◌}
-use mathlib.Core.Option.{Option, none, some}
+use Rattle.std.specs.Prelude.{Option, None, Some}
 use mathlib.Core.Path.{◌≡◌, refl}
 use borrow.Author.Tests.{eqb-false, ltb-true, not-false}
 use lib.Dec.{eqb, ltb}
@@ -19,13 +19,14 @@ use Rattle.coordinator.specs.Refusal.{Row, first_row, all_confirmed, open_refusa
 use Rattle.effects.proofs.Bounds.{names_range, count_le}
 use Rattle.effects.proofs.Holder.{holder_is}
 use Rattle.soundness.specs.Accepted.{OpenAccepted, HolderOf, AskAccepted, ConfirmAccepted, CloseAccepted}
+use Rattle.refusals.specs.declared.refusal.Refusal.{Refusal}
 
 -- no row applies: not the first, and none below it
-passed : (r : Row) (rows : List Row) → first_row (r ∷ rows) ≡ none → (r.applies ≡ false) × (first_row rows ≡ none)
+passed : (r : Row) (rows : List Row) → first_row (r ∷ rows) ≡ None → (r.applies ≡ false) × (first_row rows ≡ None)
 unfolding first_row
 passed r rows e = by r.applies refl e
   where
-    by : (b : Bool) → r.applies ≡ b → ◌≡◌ {A = Option ℕ} (elim b [ true ↦ some r.number | false ↦ first_row rows ]) none → (b ≡ false) × (first_row rows ≡ none)
+    by : (b : Bool) → r.applies ≡ b → ◌≡◌ {A = Option Refusal} (elim b [ true ↦ Some r.number | false ↦ first_row rows ]) None → (b ≡ false) × (first_row rows ≡ None)
     by true p q = let z : ◌≡◌ {A = ℕ} 0 1 = cc in absurd (omega arith)
     by false p q = (refl, q)
 
@@ -40,7 +41,7 @@ module _ (s : Coordinator) where
       let (l, o, q) = holder_is s t (eqb-false (holders s t) 0 e) in
       record { slot = l; is_open = o; holds = q }
 
-  pub ask_accepted : (t k : ℕ) → ask_refusal s t k ≡ none → AskAccepted s t k
+  pub ask_accepted : (t k : ℕ) → ask_refusal s t k ≡ None → AskAccepted s t k
   unfolding ask_refusal names step_refusal
   ask_accepted t k e =
       let (r10, e3) = passed _ _ e in
@@ -56,7 +57,7 @@ module _ (s : Coordinator) where
         unasked = r6;
       }
 
-  pub confirm_accepted : (t k : ℕ) → confirm_refusal s t k ≡ none → ConfirmAccepted s t k
+  pub confirm_accepted : (t k : ℕ) → confirm_refusal s t k ≡ None → ConfirmAccepted s t k
   unfolding confirm_refusal names step_refusal
   confirm_accepted t k e =
       let (r10, e3) = passed _ _ e in
@@ -75,7 +76,7 @@ module _ (s : Coordinator) where
       }
 
 module _ (s : Coordinator) (h : Shape s) where
-  pub open_accepted : (mask : ℕ) → open_refusal s mask ≡ none → OpenAccepted s mask
+  pub open_accepted : (mask : ℕ) → open_refusal s mask ≡ None → OpenAccepted s mask
   unfolding open_refusal slot_refusal
   open_accepted mask e =
       let (r10, e1) = passed _ _ e in
@@ -91,7 +92,7 @@ module _ (s : Coordinator) (h : Shape s) where
   unfolding all_confirmed
   confirmed_all j e k n = then_true (names s j k) (confirmed s j k) (every_at databases _ e k (names_range s h j k n).1) n
 
-  pub close_accepted : (t : ℕ) → close_refusal s t ≡ none → CloseAccepted s t
+  pub close_accepted : (t : ℕ) → close_refusal s t ≡ None → CloseAccepted s t
   unfolding close_refusal job_refusal
   close_accepted t e =
       let (r10, e3) = passed _ _ e in

@@ -1,16 +1,12 @@
 -- Every call on a sound state leaves a sound state, refused or not. Assumes nothing.
 use Prim.Native.Nat.{ℕ, zero, suc, ◌^◌, ◌<◌}
 use mathlib.Core.Bool.{Bool, true, false, not, ◌&&◌}
-use mathlib.Core.Option.{Option, none, some}
+use Rattle.std.specs.Prelude.{Option, None, Some}
 use mathlib.Core.Path.{◌≡◌, refl, sym, subst, ◌∙◌}
 use borrow.Author.Tests.{eq-eqb, eqb-false, not-true}
 use lib.Dec.{eqb}
 use Rattle.loops.proofs.Tests.{both, and_left, and_right, untrue}
 use Rattle.coordinator.specs.declared.Coordinator.{Coordinator}
-use Rattle.coordinator.specs.declared.answers.AfterOpen.{AfterOpen}
-use Rattle.coordinator.specs.declared.answers.AfterAsk.{AfterAsk}
-use Rattle.coordinator.specs.declared.answers.AfterConfirm.{AfterConfirm}
-use Rattle.coordinator.specs.declared.answers.AfterClose.{AfterClose}
 use Rattle.coordinator.specs.Limits.{jobs, databases}
 use Rattle.coordinator.specs.Shape.{Shape}
 use Rattle.coordinator.specs.Sound.{Sound}
@@ -35,6 +31,12 @@ use Rattle.soundness.proofs.Marks.{asked_sound, confirmed_sound, held_sound}
 use Rattle.soundness.proofs.Release.{released_sound}
 use Rattle.soundness.proofs.Remove.{removed_sound}
 use Rattle.soundness.proofs.Open.{opened_sound}
+use Rattle.coordinator.specs.declared.answers.After.{After}
+use Rattle.coordinator.specs.declared.answers.Opened.{Opened}
+use Rattle.coordinator.specs.declared.answers.Asked.{Asked}
+use Rattle.coordinator.specs.declared.answers.Closed.{Closed}
+use Rattle.numbers.specs.declared.Ticket.{Ticket}
+use Rattle.refusals.specs.declared.refusal.Refusal.{Refusal}
 
 kept : {s : Coordinator} {v : View} → Changed s v → Kept s
 kept c = (c.shape, c.sound)
@@ -45,11 +47,11 @@ pub open_kept : (s : Coordinator) → Kept s → (mask : ℕ) → mask < 2 ^ 16 
 unfolding accepted
 open_kept s (h, S) mask small = by (open_refusal s mask) refl
   where
-    by : (o : Option ℕ) → open_refusal s mask ≡ o → Kept (after_open s mask).state
-    by none e =
+    by : (o : Option Refusal) → open_refusal s mask ≡ o → Kept (after_open s mask).state
+    by None e =
         let a = open_accepted s h mask e in
-        subst (λ (r : AfterOpen). Kept r.state) (sym (open_taken s mask e)) (kept (opened_sound s h S mask small a.some a.room).1)
-    by (some n) e = subst (λ (r : AfterOpen). Kept r.state) (sym (open_refused s mask n e)) (h, S)
+        subst (λ (r : After Opened). Kept r.state) (sym (open_taken s mask e)) (kept (opened_sound s h S mask small a.some a.room).1)
+    by (Some n) e = subst (λ (r : After Opened). Kept r.state) (sym (open_refused s mask n e)) (h, S)
 
 -- ask
 
@@ -64,17 +66,17 @@ asked_kept s (h, S) j k slot database n new = by (may_go (mark_asked s j k) j k)
     by true e =
         let asks : asked (mark_asked s j k) j k ≡ true = c.shows.asked j k ∙ rw (eq-eqb j j refl, eq-eqb k k refl) in
         let waits : released (mark_asked s j k) j k ≡ false = c.shows.released j k ∙ untrue (released s j k) (λ r. both (S.released_asked j k r) new) in
-        subst (λ (r : AfterAsk). Kept r.state) (sym (ask_goes s j k e)) (kept (released_sound (mark_asked s j k) c.shape c.sound j k slot database asks waits))
-    by false e = subst (λ (r : AfterAsk). Kept r.state) (sym (ask_waits s j k e)) (kept c)
+        subst (λ (r : After Asked). Kept r.state) (sym (ask_goes s j k e)) (kept (released_sound (mark_asked s j k) c.shape c.sound j k slot database asks waits))
+    by false e = subst (λ (r : After Asked). Kept r.state) (sym (ask_waits s j k e)) (kept c)
 
 pub ask_kept : (s : Coordinator) → Kept s → (t k : ℕ) → Kept (after_ask s t k).state
 ask_kept s K t k = by (ask_refusal s t k) refl
   where
-    by : (o : Option ℕ) → ask_refusal s t k ≡ o → Kept (after_ask s t k).state
-    by none e =
+    by : (o : Option Refusal) → ask_refusal s t k ≡ o → Kept (after_ask s t k).state
+    by None e =
         let a = ask_accepted s t k e in
-        subst (λ (r : AfterAsk). Kept r.state) (sym (ask_taken s t k e)) (asked_kept s K (holder s t) k a.holder_of.slot a.database a.named a.unasked)
-    by (some n) e = subst (λ (r : AfterAsk). Kept r.state) (sym (ask_refused s t k n e)) K
+        subst (λ (r : After Asked). Kept r.state) (sym (ask_taken s t k e)) (asked_kept s K (holder s t) k a.holder_of.slot a.database a.named a.unasked)
+    by (Some n) e = subst (λ (r : After Asked). Kept r.state) (sym (ask_refused s t k n e)) K
 
 -- confirm
 
@@ -94,17 +96,17 @@ confirmed_kept s (h, S) j k slot database r = by (eqb (may_go_at (mark_confirmed
     K = kept (confirmed_sound s h S j k slot database r)
 
     by : (b : Bool) → eqb (may_go_at (mark_confirmed s j k) k) 0 ≡ b → Kept (confirmed_at s j k).state
-    by true e = subst (λ (r : AfterConfirm). Kept r.state) (sym (confirm_none s j k e)) K
-    by false e = subst (λ (r : AfterConfirm). Kept r.state) (sym (confirm_one s j k e)) (one_kept (mark_confirmed s j k) K k database (eqb-false (may_go_at (mark_confirmed s j k) k) 0 e))
+    by true e = subst (λ (r : After (Option Ticket)). Kept r.state) (sym (confirm_none s j k e)) K
+    by false e = subst (λ (r : After (Option Ticket)). Kept r.state) (sym (confirm_one s j k e)) (one_kept (mark_confirmed s j k) K k database (eqb-false (may_go_at (mark_confirmed s j k) k) 0 e))
 
 pub confirm_kept : (s : Coordinator) → Kept s → (t k : ℕ) → Kept (after_confirm s t k).state
 confirm_kept s K t k = by (confirm_refusal s t k) refl
   where
-    by : (o : Option ℕ) → confirm_refusal s t k ≡ o → Kept (after_confirm s t k).state
-    by none e =
+    by : (o : Option Refusal) → confirm_refusal s t k ≡ o → Kept (after_confirm s t k).state
+    by None e =
         let a = confirm_accepted s t k e in
-        subst (λ (r : AfterConfirm). Kept r.state) (sym (confirm_taken s t k e)) (confirmed_kept s K (holder s t) k a.holder_of.slot a.database a.is_released)
-    by (some n) e = subst (λ (r : AfterConfirm). Kept r.state) (sym (confirm_refused s t k n e)) K
+        subst (λ (r : After (Option Ticket)). Kept r.state) (sym (confirm_taken s t k e)) (confirmed_kept s K (holder s t) k a.holder_of.slot a.database a.is_released)
+    by (Some n) e = subst (λ (r : After (Option Ticket)). Kept r.state) (sym (confirm_refused s t k n e)) K
 
 -- close
 
@@ -143,17 +145,17 @@ unfolding closing
 closed_kept s (h, S) j o all = by (may_close s j) refl
   where
     by : (b : Bool) → may_close s j ≡ b → Kept (closed_at s j).state
-    by true e = subst (λ (r : AfterClose). Kept r.state) (sym (close_goes s j e)) (cascade_kept jobs _ (one_closed _ (h, S) j o))
-    by false e = subst (λ (r : AfterClose). Kept r.state) (sym (close_waits s j e)) (kept (held_sound s h S j o all))
+    by true e = subst (λ (r : After (Option Closed)). Kept r.state) (sym (close_goes s j e)) (cascade_kept jobs _ (one_closed _ (h, S) j o))
+    by false e = subst (λ (r : After (Option Closed)). Kept r.state) (sym (close_waits s j e)) (kept (held_sound s h S j o all))
 
 pub close_kept : (s : Coordinator) → Kept s → (t : ℕ) → Kept (after_close s t).state
 close_kept s K t = by (close_refusal s t) refl
   where
-    by : (o : Option ℕ) → close_refusal s t ≡ o → Kept (after_close s t).state
-    by none e =
+    by : (o : Option Refusal) → close_refusal s t ≡ o → Kept (after_close s t).state
+    by None e =
         let a = close_accepted s K.0 t e in
-        subst (λ (r : AfterClose). Kept r.state) (sym (close_taken s t e)) (closed_kept s K (holder s t) a.holder_of.is_open a.all_confirmed)
-    by (some n) e = subst (λ (r : AfterClose). Kept r.state) (sym (close_refused s t n e)) K
+        subst (λ (r : After (Option Closed)). Kept r.state) (sym (close_taken s t e)) (closed_kept s K (holder s t) a.holder_of.is_open a.all_confirmed)
+    by (Some n) e = subst (λ (r : After (Option Closed)). Kept r.state) (sym (close_refused s t n e)) K
 
 -- every call
 

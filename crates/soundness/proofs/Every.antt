@@ -1,6 +1,6 @@
 -- Of every state that its type allows, damaged or not: a call that is accepted leaves a sound state, a damaged state is refused with 10, and the test says after a call what it said before. Assumes nothing.
 use mathlib.Core.Bool.{Bool, true, false}
-use mathlib.Core.Option.{none, some}
+use Rattle.std.specs.Prelude.{None, Some}
 use mathlib.Core.Path.{◌≡◌, refl, sym, ap, subst, ◌∙◌}
 use Rattle.loops.proofs.Tests.{both, untrue}
 use Rattle.coordinator.specs.declared.Coordinator.{Coordinator}
@@ -17,21 +17,21 @@ use Rattle.soundness.proofs.Calls.{play_sound}
 use Rattle.soundness.proofs.Refused.{refused_play}
 
 module _ (s : Coordinator) (h : Shape s) where
-  accepted_tested : (c : Call) → refusal_of s c ≡ none → sound s ≡ true
+  accepted_tested : (c : Call) → refusal_of s c ≡ None → sound s ≡ true
   unfolding refusal_of
   accepted_tested (open_job mask) e = (open_accepted s h mask e).tested
   accepted_tested (ask_step t k) e = (ask_accepted s t k e).tested
   accepted_tested (confirm_step t k) e = (confirm_accepted s t k e).tested
   accepted_tested (close_job t) e = (close_accepted s h t e).tested
 
-  pub accepted_sound : (c : Call) → MaskFits c → refusal_of s c ≡ none → Sound s × Sound (play s c).state
+  pub accepted_sound : (c : Call) → MaskFits c → refusal_of s c ≡ None → Sound s × Sound (play s c).state
   accepted_sound c fits e = let S = (sound_iff s h).0 (accepted_tested c e) in (S, (play_sound s c fits h S).1)
 
-  pub damaged_refused : ¬ Sound s → (c : Call) → refusal_of s c ≡ some 10
+  pub damaged_refused : ¬ Sound s → (c : Call) → refusal_of s c ≡ Some 10
   unfolding refusal_of open_refusal ask_refusal confirm_refusal close_refusal first_row slot_refusal step_refusal job_refusal
   damaged_refused damaged c = ten c (untrue (sound s) (λ e. damaged ((sound_iff s h).0 e)))
     where
-      ten : (c : Call) → sound s ≡ false → refusal_of s c ≡ some 10
+      ten : (c : Call) → sound s ≡ false → refusal_of s c ≡ Some 10
       ten (open_job mask) e = rw (refusal_of, open_refusal, first_row, e)
       ten (ask_step t k) e = rw (refusal_of, ask_refusal, first_row, e)
       ten (confirm_step t k) e = rw (refusal_of, confirm_refusal, first_row, e)

@@ -3,13 +3,11 @@ use Prim.Native.Nat.{ℕ, zero, suc, ◌<◌}
 use native.Mathlib.Omega.{arith}
 use mathlib.Core.Bool.{Bool, true, false, not}
 use mathlib.Core.List.{List, [], ◌∷◌}
-use mathlib.Core.Option.{Option, none, some}
+use Rattle.std.specs.Prelude.{Option, None, Some}
 use mathlib.Core.Path.{◌≡◌, refl, sym, ap, subst, ◌∙◌}
 use borrow.Author.Tests.{eqb-true, eqb-false}
 use lib.Dec.{eqb}
 use Rattle.coordinator.specs.declared.Coordinator.{Coordinator}
-use Rattle.coordinator.specs.declared.answers.AfterClose.{AfterClose}
-use Rattle.coordinator.specs.declared.answers.CloseAnswer.{CloseAnswer}
 use Rattle.coordinator.specs.Limits.{jobs}
 use Rattle.coordinator.specs.Shape.{Shape}
 use Rattle.coordinator.specs.Sound.{Sound}
@@ -28,6 +26,9 @@ use Rattle.soundness.proofs.Accepted.{close_accepted}
 use Rattle.soundness.proofs.Refused.{first_applies}
 use Rattle.soundness.proofs.Remove.{removed_sound}
 use Rattle.soundness.proofs.Calls.{one_closed, first_open}
+use Rattle.coordinator.specs.declared.answers.After.{After}
+use Rattle.coordinator.specs.declared.answers.Closed.{Closed}
+use Rattle.refusals.specs.declared.refusal.Refusal.{Refusal}
 
 -- a removal leaves a free slot
 removed_room : (s : Coordinator) → Kept s → (j : ℕ) → is_open s j ≡ true → open_count (removed s j) < jobs
@@ -55,32 +56,32 @@ cascade_room (suc left) c K room = by (eqb (may_close_now c.state) 0) refl (casc
 closed_room : (s : Coordinator) → Kept s → (j : ℕ) → is_open s j ≡ true → may_close s j ≡ true → open_count (closed_at s j).state < jobs
 unfolding closing
 closed_room s K j o e =
-    subst (λ (r : AfterClose). open_count r.state < jobs) (sym (close_goes s j e)) (cascade_room jobs _ (one_closed _ K j o) (one_room _ K j o))
+    subst (λ (r : After (Option Closed)). open_count r.state < jobs) (sym (close_goes s j e)) (cascade_room jobs _ (one_closed _ K j o) (one_room _ K j o))
 
-pub close_room : (s : Coordinator) → Shape s → Sound s → (t : ℕ) → close_refusal s t ≡ none → may_close s (holder s t) ≡ true → open_count (after_close s t).state < jobs
+pub close_room : (s : Coordinator) → Shape s → Sound s → (t : ℕ) → close_refusal s t ≡ None → may_close s (holder s t) ≡ true → open_count (after_close s t).state < jobs
 close_room s h S t e m =
-    subst (λ (r : AfterClose). open_count r.state < jobs) (sym (close_taken s t e)) (closed_room s (h, S) (holder s t) (close_accepted s h t e).holder_of.is_open m)
+    subst (λ (r : After (Option Closed)). open_count r.state < jobs) (sym (close_taken s t e)) (closed_room s (h, S) (holder s t) (close_accepted s h t e).holder_of.is_open m)
 
 -- an answer that jobs were closed tells that the close was not refused and not held
-pub closed_went : (s : Coordinator) (t n : ℕ) → (after_close s t).answer ≡ CloseAnswer.Closed n → (close_refusal s t ≡ none) × (may_close s (holder s t) ≡ true)
+pub closed_went : (s : Coordinator) (t n : ℕ) → (after_close s t).answer ≡ CloseAnswer.Closed n → (close_refusal s t ≡ None) × (may_close s (holder s t) ≡ true)
 closed_went s t n e = by (close_refusal s t) refl
   where
-    went : close_refusal s t ≡ none → (b : Bool) → may_close s (holder s t) ≡ b → (close_refusal s t ≡ none) × (may_close s (holder s t) ≡ true)
+    went : close_refusal s t ≡ None → (b : Bool) → may_close s (holder s t) ≡ b → (close_refusal s t ≡ None) × (may_close s (holder s t) ≡ true)
     went p true q = (p, q)
     went p false q =
-        let held : CloseAnswer.Held ≡ CloseAnswer.Closed n = sym (ap (λ (r : AfterClose). r.answer) (close_taken s t p ∙ close_waits s (holder s t) q)) ∙ e in
+        let held : CloseAnswer.Held ≡ CloseAnswer.Closed n = sym (ap (λ (r : After (Option Closed)). r.answer) (close_taken s t p ∙ close_waits s (holder s t) q)) ∙ e in
         let z : ◌≡◌ {A = ℕ} 0 1 = cc in
         absurd (omega arith)
 
-    by : (o : Option ℕ) → close_refusal s t ≡ o → (close_refusal s t ≡ none) × (may_close s (holder s t) ≡ true)
-    by none p = went p (may_close s (holder s t)) refl
-    by (some m) p =
-        let told : CloseAnswer.Refused m ≡ CloseAnswer.Closed n = sym (ap (λ (r : AfterClose). r.answer) (close_refused s t m p)) ∙ e in
+    by : (o : Option Refusal) → close_refusal s t ≡ o → (close_refusal s t ≡ None) × (may_close s (holder s t) ≡ true)
+    by None p = went p (may_close s (holder s t)) refl
+    by (Some m) p =
+        let told : CloseAnswer.Refused m ≡ CloseAnswer.Closed n = sym (ap (λ (r : After (Option Closed)). r.answer) (close_refused s t m p)) ∙ e in
         let z : ◌≡◌ {A = ℕ} 0 1 = cc in
         absurd (omega arith)
 
 -- refusal 2 tells that every slot is taken
-two_full : (s : Coordinator) (mask : ℕ) → open_refusal s mask ≡ some 2 → open_count s ≡ jobs
+two_full : (s : Coordinator) (mask : ℕ) → open_refusal s mask ≡ Some 2 → open_count s ≡ jobs
 unfolding open_refusal slot_refusal
 two_full s mask e = let f = first_applies _ 2 e in by f.place f.inside f.number f.applies
   where
@@ -97,7 +98,7 @@ two_full s mask e = let f = first_applies _ 2 e in by f.place f.inside f.number 
     by (suc (suc zero)) l n a = eqb-true (open_count s) jobs a
     by (suc (suc (suc i))) l n a = absurd (omega arith)
 
-pub room_after_close : (s : Coordinator) → Shape s → Sound s → (t n mask : ℕ) → (after_close s t).answer ≡ CloseAnswer.Closed n → ¬ (open_refusal (after_close s t).state mask ≡ some 2)
+pub room_after_close : (s : Coordinator) → Shape s → Sound s → (t n mask : ℕ) → (after_close s t).answer ≡ CloseAnswer.Closed n → ¬ (open_refusal (after_close s t).state mask ≡ Some 2)
 room_after_close s h S t n mask e two =
     let (p, m) = closed_went s t n e in
     omega (arith, close_room s h S t p m, two_full (after_close s t).state mask two)

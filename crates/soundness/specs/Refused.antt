@@ -1,14 +1,15 @@
 -- The refusal of a call, and what it means that a row is the first that applies. Assumes nothing: these are definitions.
 use Rattle.std.specs.Prelude.{ℕ, ◌<◌, true, false, not, ◌||◌, List, ◌≡◌, length, get_or}
-use Rattle.std.proofs.Math.Option.{Option}
+use Rattle.std.specs.Prelude.{Option}
 use Rattle.coordinator.specs.declared.Coordinator.{Coordinator}
 use Rattle.coordinator.specs.Views.{in_mask, asked, released, confirmed, open_count, held}
 use Rattle.coordinator.specs.Holder.{holders, holder}
 use Rattle.coordinator.specs.Test.{sound}
 use Rattle.coordinator.specs.Refusal.{Row, slot_rows, step_rows, job_rows, all_confirmed, open_refusal, ask_refusal, confirm_refusal, close_refusal}
 use Rattle.coordinator.specs.Call.{Call, open_job, ask_step, confirm_step, close_job}
+use Rattle.refusals.specs.declared.refusal.Refusal.{Refusal}
 
-unfoldable pub refusal_of : Coordinator → Call → Option ℕ
+unfoldable pub refusal_of : Coordinator → Call → Option Refusal
 refusal_of s (open_job mask) = open_refusal s mask
 refusal_of s (ask_step t k) = ask_refusal s t k
 refusal_of s (confirm_step t k) = confirm_refusal s t k

@@ -13,7 +13,7 @@ fits : (sets : List ℕ) (n : ℕ) → n ≡ sum databases (λ k. size jobs (ent
 fits sets n e = omega (arith, sum_le databases jobs (λ k. size jobs (entry sets k)) (λ k l. size_le jobs (entry sets k)))
 
 pub overflow_mul-result : goal.overflow_mul-result
-overflow_mul-result c = let h : 3 * c.count_all.result < 2 ^ 32 = fits c.args.self.named _ c.count_all.ensures in omega arith
+overflow_mul-result c = let h : 3 * c.count_all.result < 2 ^ 32 = fits c.args.self.now.named _ c.count_all.ensures in omega arith
 
 pub returns : goal.returns
 unfolding most_moves

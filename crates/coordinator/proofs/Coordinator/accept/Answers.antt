@@ -1,0 +1,32 @@
+use Rattle.std.proofs.Common.{◌≡◌, length, arith, rules}
+use Rattle.coordinator.specs.Limits.{jobs}
+use Rattle.coordinator.proofs.Tables.{open_slots_are}
+use Rattle.coordinator.proofs.Opening.{room_left, slot_fits, opened_at}
+use Rattle.coordinator.proofs.Coordinator.accept.Goals as goal
+
+pub hand_out-handed-requires : goal.hand_out-handed-requires
+hand_out-handed-requires c = omega (arith, c.size-count.ensures, room_left _ c.requires.1)
+
+pub bounds-self-at : goal.bounds-self-at
+bounds-self-at c = slot_fits _ c.requires.1 c.ranges.slots.fits _ c.lowest_of-n.ensures
+
+pub bounds-self-count : goal.bounds-self-count
+bounds-self-count c = omega (arith, c.size-count.ensures, room_left _ c.requires.1)
+
+pub name_databases-requires : goal.name_databases-requires
+name_databases-requires c = slot_fits _ c.requires.1 c.ranges.slots.fits _ c.lowest_of-n.ensures
+
+pub lead_released-requires : goal.lead_released-requires
+lead_released-requires c = slot_fits _ c.requires.1 c.ranges.slots.fits _ c.lowest_of-n.ensures
+
+pub lead_found-requires : goal.lead_found-requires
+lead_found-requires c = slot_fits _ c.requires.1 c.ranges.slots.fits _ c.lowest_of-n.ensures
+
+pub returns : goal.returns
+returns c =
+    let s = c.args.self.now in
+    let sized : length s.tickets ≡ jobs = search rules in
+    opened_at s c.args.mask _ _ _ _ _ _ _ _ _ _ sized (open_slots_are s _ c.requires.0)
+    (slot_fits _ c.requires.1 c.ranges.slots.fits _ c.lowest_of-n.ensures) c.lowest_of-n.ensures
+    c.size-count.ensures c.hand_out-handed.ensures.0 c.hand_out-handed.ensures.1 c.name_databases.ensures c.lead_released.ensures
+    c.search-sought.ensures c.lead_found.ensures c.count_all-added.ensures
