@@ -1,5 +1,5 @@
 -- A call that a row refuses, and one that none refuses. Assumes nothing.
-use mathlib.Core.Path.{◌≡◌, ap}
+use mathlib.Core.Path.{◌≡◌}
 use mathlib.Core.Bool.{Bool}
 use Prim.Native.Nat.{ℕ}
 use Rattle.std.specs.Prelude.{Option, None, Some, Err}
@@ -12,10 +12,10 @@ use Rattle.coordinator.specs.declared.answers.Asked.{Asked}
 use Rattle.coordinator.specs.declared.answers.Closed.{Closed}
 use Rattle.coordinator.specs.Holder.{holder}
 use Rattle.coordinator.specs.Refusal.{open_refusal_tested, ask_refusal_tested, confirm_refusal_tested, close_refusal_tested}
-use Rattle.coordinator.specs.Open.{free_slot, accepted, open_answered, after_open_tested}
-use Rattle.coordinator.specs.Ask.{asked_for, ask_answered, after_ask_tested}
-use Rattle.coordinator.specs.Confirm.{confirmed_at, confirm_answered, after_confirm_tested}
-use Rattle.coordinator.specs.Close.{closed_at, close_answered, after_close_tested}
+use Rattle.coordinator.specs.Open.{free_slot, accepted, after_open_tested}
+use Rattle.coordinator.specs.Ask.{asked_for, after_ask_tested}
+use Rattle.coordinator.specs.Confirm.{confirmed_at, after_confirm_tested}
+use Rattle.coordinator.specs.Close.{closed_at, after_close_tested}
 
 module _ (b : Bool) (s : Coordinator) where
   pub open_refused : (mask : ℕ) (r : Refusal) → open_refusal_tested b s mask ≡ Some r → ◌≡◌ {A = After Opened} (record { answer = Err r; state = s }) (after_open_tested b s mask)

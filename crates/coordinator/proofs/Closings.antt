@@ -9,7 +9,7 @@ use mathlib.Core.Path.{◌≡◌, refl, sym, ap, ap₂, ◌∙◌}
 use borrow.Author.Tests.{ne_eqb}
 use lib.Bits.{bit_or}
 use lib.Dec.{eqb}
-use lib.ListN.{set}
+use lib.ListN.{length, set}
 use Rattle.loops.specs.Sum.{tally}
 use Rattle.loops.proofs.Tests.{and_left, and_right, or_cases, or_right}
 use Rattle.mask.specs.Member.{holds, excluding, lowest, size}
@@ -128,6 +128,10 @@ module _ {s₀ : Coordinator} {found : ℕ} {s : Coordinator} {tickets : List �
 
   pub going_done : next ≡ 0 → record { count = count; tickets = tickets; state = s } ≡ closing s₀ (lowest jobs found)
   going_done z = sym (from_none (suc jobs - count) _) ∙ rw z at g.same
+
+-- a table of n sets without slot j
+pub struck : (l r : List ℕ) (n j : ℕ) → length l ≡ n → r ≡ strike (length l) j l → r ≡ strike n j l
+struck l r n j h e = e ∙ ap (λ (m : ℕ). strike m j l) h
 
 -- each table without slot j, one after another
 pub removed_made : (s : Coordinator) (j w : ℕ) → j ≡ w → (held p : ℕ) (order named asked released confirmed rows dependencies : List ℕ)

@@ -1,17 +1,16 @@
 -- What ask and confirm read of a state before they change it, and what it tells that no row applies. Assumes nothing.
-use mathlib.Core.Path.{◌≡◌, sym, ◌∙◌}
+use mathlib.Core.Path.{◌≡◌, ◌∙◌}
 use mathlib.Core.Bool.{Bool, not, ◌||◌}
 use Prim.Native.Nat.{ℕ, ◌<◌}
 use native.Mathlib.Omega.{arith}
-use Rattle.std.specs.Prelude.{Option, None, Some, Result, Ok, Err}
+use Rattle.std.specs.Prelude.{None}
 use Rattle.mask.specs.Member.{holds, lowest}
 use Rattle.mask.proofs.Lowest.{trailing_lowest}
 use Rattle.tables.specs.Tables.{open_in, holders_in}
 use Rattle.tables.proofs.Owning.{holders_lt}
 use Rattle.refusals.specs.declared.refusal.Refusal.{Refusal}
 use Rattle.refusals.specs.declared.refusal.Refusal.TheVariants.{AskedBefore, Settled}
-use Rattle.refusals.specs.Outcome.{outcome}
-use Rattle.refusals.proofs.Rows.{not_refused, refused, rows_same}
+use Rattle.refusals.proofs.Rows.{rows_same}
 use Rattle.refusals.proofs.Passed.{step_passed}
 use Rattle.coordinator.specs.declared.Coordinator.{Coordinator}
 use Rattle.coordinator.specs.Limits.{jobs, databases}

@@ -6,6 +6,7 @@ ghost use Rattle.coordinator.specs.Close.{after_close, after_close_tested};
 
 use crate::answers::{After, Closed};
 use crate::{Coordinator, may_close, slots};
+use mask::Set;
 use numbers::Ticket;
 use refusals::Refusal;
 
@@ -17,12 +18,12 @@ impl Coordinator {
         let found = tables::holders::holders_of(&self.tickets, &self.named, ticket);
         let slot = slots::lowest_of(found);
         let finished = may_close::all_confirmed(&self.named, &self.confirmed, slot);
-        let waits = mask::slots::holds(self.held, slot.0);
+        let waits = self.held.holds(slot.0);
         refusals::of_close(sound, found, finished, waits)?;
         if may_close::may_close(&self.dependencies, slot) {
             return Ok(Some(self.close_from(found)));
         }
-        self.held = mask::slots::with_member(self.held, slot.0);
+        self.held = self.held.with_member(slot.0);
         Ok(None)
     }
 

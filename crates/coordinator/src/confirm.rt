@@ -8,6 +8,7 @@ ghost use Rattle.coordinator.specs.Confirm.{confirmed_at, after_confirm, after_c
 
 use crate::answers::After;
 use crate::{Coordinator, release, slots, views};
+use mask::Set;
 use numbers::{Database, Slot, Ticket};
 use refusals::Refusal;
 
@@ -15,10 +16,7 @@ use refusals::Refusal;
 fn is_settled(released: u32, confirmed: u32, j: Slot) -> bool
     ensures { result ≡ not (holds released j.0) || holds confirmed j.0 }
 {
-    if mask::slots::holds(released, j.0) {
-        return mask::slots::holds(confirmed, j.0);
-    }
-    true
+    !released.holds(j.0) || confirmed.holds(j.0)
 }
 
 impl Coordinator {

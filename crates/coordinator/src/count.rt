@@ -6,14 +6,15 @@ ghost use Rattle.coordinator.specs.Limits.{jobs, databases};
 ghost use Rattle.coordinator.specs.Views.{entry};
 
 use crate::Coordinator;
+use mask::Set;
 
 // The slots in the sets of all databases, each counted once for each database.
 pub(crate) fn count_all(sets: &[u32; Coordinator::DATABASES]) -> u32
     ensures { result ≡ sum databases (λ k. size jobs (entry sets.now k)) }
 {
     let mut n = 0u32;
-    for k in 0..Coordinator::DATABASES {
-        n = n + mask::slots::size(sets[k]);
+    for set in sets {
+        n += set.size();
     }
     n
 }

@@ -7,6 +7,7 @@ ghost use Rattle.coordinator.specs.Views.{entry};
 ghost use Rattle.coordinator.specs.Change.{mark, lead};
 
 use crate::{Coordinator, release};
+use mask::Set;
 use numbers::{Database, Slot};
 
 // The job in slot n names the databases of its mask.
@@ -14,11 +15,8 @@ pub(crate) fn name_databases(named: &mut [u32; Coordinator::DATABASES], mask: u1
     requires { n.0 < jobs }
     ensures { named.new ≡ over_members databases mask (λ k l. mark l k n.0) named.old }
 {
-    let mut left = mask;
-    while left != 0 {
-        let k = mask::databases::lowest(left) as u8;
+    for k in mask.members() {
         release::mark(named, Database(k), n);
-        left = mask::databases::rest(left);
     }
 }
 
@@ -27,9 +25,7 @@ fn lead(dependencies: &mut [u32; Coordinator::STEPS], k: usize, set: u32, n: Slo
     requires { (k < databases) × (n.0 < jobs) }
     ensures { dependencies.new ≡ lead k set n.0 dependencies.old }
 {
-    let at = k * Coordinator::JOBS + n.0 as usize;
-    let before = dependencies[at];
-    dependencies[at] = before | set;
+    dependencies[k * Coordinator::JOBS + n.0 as usize] |= set;
 }
 
 // At each database of the mask, those whose step there is released go before the job in slot n, confirmed or not.
@@ -42,11 +38,9 @@ pub(crate) fn lead_released(
     requires { n.0 < jobs }
     ensures { dependencies.new ≡ over_members databases mask (λ k. lead k (entry released.now k) n.0) dependencies.old }
 {
-    let mut left = mask;
-    while left != 0 {
-        let k = mask::databases::lowest(left) as usize;
+    for k in mask.members() {
+        let k = k as usize;
         lead(dependencies, k, released[k], n);
-        left = mask::databases::rest(left);
     }
 }
 
@@ -59,7 +53,7 @@ pub(crate) fn lead_found(
     requires { n.0 < jobs }
     ensures { dependencies.new ≡ over databases (λ k. lead k (entry found.now k) n.0) dependencies.old }
 {
-    for k in 0..Coordinator::DATABASES {
-        lead(dependencies, k, found[k], n);
+    for (k, set) in found.iter().enumerate() {
+        lead(dependencies, k, *set, n);
     }
 }

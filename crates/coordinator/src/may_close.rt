@@ -5,14 +5,15 @@ ghost use Rattle.mask.specs.Member.{holds};
 ghost use Rattle.coordinator.specs.Limits.{jobs};
 ghost use Rattle.coordinator.specs.Tables.{may_close_in, may_close_now_in, all_confirmed_in};
 
-use crate::{Coordinator, slots};
+use crate::Coordinator;
+use mask::Set;
 use numbers::Slot;
 
 // The slots whose step at a database is named and not confirmed, told by its members.
 fn unconfirmed(named: u32, confirmed: u32) -> u32
     ensures { (j : ℕ) → holds result j ≡ holds named j && not (holds confirmed j) }
 {
-    mask::slots::less(named, confirmed)
+    named.less(confirmed)
 }
 
 // Every step of the job in slot j is confirmed: it is not among those with a step that isn't.
@@ -24,10 +25,10 @@ pub(crate) fn all_confirmed<'a>(
     ensures { result ≡ all_confirmed_in named.now confirmed.now j.0 }
 {
     let mut unfinished = 0u32;
-    for k in 0..Coordinator::DATABASES {
-        unfinished = unfinished | unconfirmed(named[k], confirmed[k]);
+    for (k, named) in named.iter().enumerate() {
+        unfinished |= unconfirmed(*named, confirmed[k]);
     }
-    !mask::slots::holds(unfinished, j.0)
+    !unfinished.holds(j.0)
 }
 
 // No dependency goes into the job in slot j at any database.
@@ -61,11 +62,8 @@ pub(crate) fn may_close_now(dependencies: &[u32; Coordinator::STEPS], held: u32)
     ensures { result ≡ may_close_now_in dependencies.now held }
 {
     let mut found = 0u32;
-    let mut left = held;
-    while left != 0 {
-        let j = slots::lowest_of(left);
-        found = found | free(dependencies, j);
-        left = mask::slots::rest(left);
+    for j in held.members() {
+        found |= free(dependencies, Slot(j));
     }
     found
 }

@@ -9,6 +9,7 @@ ghost use Rattle.coordinator.specs.Open.{free_slot, accepted, after_open, after_
 
 use crate::answers::{After, Opened};
 use crate::{Coordinator, count, enter, slots, tickets};
+use mask::Set;
 use refusals::Refusal;
 
 impl Coordinator {
@@ -18,7 +19,7 @@ impl Coordinator {
         ensures { ◌≡◌ {A = After Opened} (record { answer = Ok result; state = self.new }) (accepted self.old (free_slot self.old) mask) }
     {
         let n = slots::lowest_of(!slots);
-        let count = mask::slots::size(slots) as usize;
+        let count = slots.size() as usize;
         let handed = tickets::hand_out(self.maker, &self.tickets, &self.order, count);
         self.maker = handed.maker;
         let at = n.0 as usize;

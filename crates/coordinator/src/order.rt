@@ -8,6 +8,7 @@ ghost use Rattle.coordinator.specs.Views.{entry};
 ghost use Rattle.coordinator.specs.Change.{moved_up};
 
 use crate::Coordinator;
+use mask::Set;
 use numbers::Slot;
 
 // Place i as a set, where slot j stands there.
@@ -23,10 +24,10 @@ pub(crate) fn place(order: &[u8; Coordinator::JOBS], j: Slot) -> usize
     ensures { result ≡ lowest jobs (gather jobs (λ i. tally (eqb (entry order.now i) j.0))) }
 {
     let mut m = 0u32;
-    for i in 0..Coordinator::JOBS {
-        m = m | standing(order[i], j.0, i);
+    for (i, slot) in order.iter().enumerate() {
+        m |= standing(*slot, j.0, i);
     }
-    mask::slots::lowest(m) as usize
+    m.lowest() as usize
 }
 
 // What comes to stand at place i when those after p move up.
@@ -48,8 +49,8 @@ pub(crate) fn moved_up(order: [u8; Coordinator::JOBS], p: usize) -> [u8; Coordin
     ensures { result ≡ moved_up p order }
 {
     let mut moved = [0u8; Coordinator::JOBS];
-    for i in 0..Coordinator::JOBS {
-        moved[i] = next(&order, p, i);
+    for (i, slot) in moved.iter_mut().enumerate() {
+        *slot = next(&order, p, i);
     }
     moved
 }

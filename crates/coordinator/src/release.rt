@@ -9,6 +9,7 @@ ghost use Rattle.coordinator.specs.Tables.{going_in};
 ghost use Rattle.coordinator.specs.Release.{release};
 
 use crate::Coordinator;
+use mask::Set;
 use numbers::{Database, Slot};
 
 // A step may go: every one that leads into it is confirmed.
@@ -23,9 +24,7 @@ pub(crate) fn mark(sets: &mut [u32; Coordinator::DATABASES], k: Database, j: Slo
     requires { (k.0 < databases) × (j.0 < jobs) }
     ensures { sets.new ≡ mark sets.old k.0 j.0 }
 {
-    let at = k.0 as usize;
-    let m = sets[at];
-    sets[at] = m | 1 << j.0;
+    sets[k.0 as usize] |= 1 << j.0;
 }
 
 // At database k, slot a goes before each of the later ones.
@@ -34,12 +33,8 @@ fn lead_to(dependencies: &mut [u32; Coordinator::STEPS], k: Database, a: Slot, l
     ensures { dependencies.new ≡ lead_to k.0 a.0 later dependencies.old }
 {
     let first = k.0 as usize * Coordinator::JOBS;
-    let mut left = later;
-    while left != 0 {
-        let b = mask::slots::lowest(left) as usize;
-        let before = dependencies[first + b];
-        dependencies[first + b] = before | 1 << a.0;
-        left = mask::slots::rest(left);
+    for b in later.members() {
+        dependencies[first + b as usize] |= 1 << a.0;
     }
 }
 
@@ -63,11 +58,12 @@ pub(crate) fn going_of(
     ensures { result ≡ going_in dependencies.now k asked released confirmed }
 {
     let first = k * Coordinator::JOBS;
+    let rows = &dependencies[first..first + Coordinator::JOBS];
     let mut free = 0u32;
-    for j in 0..Coordinator::JOBS {
-        free = free | going(dependencies[first + j], confirmed, j);
+    for (j, into) in rows.iter().enumerate() {
+        free |= going(*into, confirmed, j);
     }
-    mask::slots::less(asked, released) & free
+    asked.less(released) & free
 }
 
 impl Coordinator {
@@ -78,7 +74,7 @@ impl Coordinator {
     {
         mark(&mut self.released, k, j);
         let at = k.0 as usize;
-        let later = mask::slots::less(self.named[at], self.released[at]);
+        let later = self.named[at].less(self.released[at]);
         lead_to(&mut self.dependencies, k, j, later);
     }
 }

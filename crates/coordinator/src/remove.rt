@@ -1,28 +1,18 @@
 // A job leaves the tables: each function takes its slot out of one of them.
-ghost use Rattle.std.specs.Prelude.{◌≡◌, ◌*◌, ◌<◌};
-ghost use Rattle.coordinator.specs.Limits.{jobs, databases, steps};
+ghost use Rattle.std.specs.Prelude.{◌≡◌, ◌<◌, length};
+ghost use Rattle.coordinator.specs.Limits.{jobs};
 ghost use Rattle.coordinator.specs.Change.{strike, unled, removed};
 
 use crate::{Coordinator, order};
+use mask::Set;
 use numbers::Slot;
 
-// Slot j leaves the set of each database.
-fn strike(sets: &mut [u32; Coordinator::DATABASES], j: Slot)
-    ensures { sets.new ≡ strike databases j.0 sets.old }
+// Slot j leaves each of the sets.
+fn strike(sets: &mut [u32], j: Slot)
+    ensures { sets.new ≡ strike (length sets.old) j.0 sets.old }
 {
-    for k in 0..Coordinator::DATABASES {
-        let m = sets[k];
-        sets[k] = mask::slots::without_member(m, j.0);
-    }
-}
-
-// Slot j goes before nobody.
-fn strike_rows(dependencies: &mut [u32; Coordinator::STEPS], j: Slot)
-    ensures { dependencies.new ≡ strike steps j.0 dependencies.old }
-{
-    for i in 0..Coordinator::STEPS {
-        let m = dependencies[i];
-        dependencies[i] = mask::slots::without_member(m, j.0);
+    for set in sets.iter_mut() {
+        *set = set.without_member(j.0);
     }
 }
 
@@ -45,14 +35,14 @@ impl Coordinator {
     {
         let at = j.0 as usize;
         self.tickets[at] = 0;
-        self.held = mask::slots::without_member(self.held, j.0);
+        self.held = self.held.without_member(j.0);
         let place = order::place(&self.order, j);
         self.order = order::moved_up(self.order, place);
         strike(&mut self.named, j);
         strike(&mut self.asked, j);
         strike(&mut self.released, j);
         strike(&mut self.confirmed, j);
-        strike_rows(&mut self.dependencies, j);
+        strike(&mut self.dependencies, j);
         unlead(&mut self.dependencies, j);
     }
 }

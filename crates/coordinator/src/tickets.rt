@@ -14,12 +14,7 @@ use numbers::{NumberMaker, maker};
 fn ticket_at(tickets: &[u16; Coordinator::JOBS], j: u8) -> u16
     ensures { result ≡ ticket_at tickets.now j }
 {
-    let at = j as usize;
-    if at < Coordinator::JOBS {
-        tickets[at]
-    } else {
-        0
-    }
+    tickets.get(j as usize).copied().unwrap_or(0)
 }
 
 // The tickets of the n open jobs in the order of their opening, with zeros after them.
@@ -32,8 +27,8 @@ fn held_tickets<'a>(
     ensures { take n result ≡ table n (λ i. ticket_at tickets.now (entry order.now i)) }
 {
     let mut held = [0u16; Coordinator::JOBS];
-    for i in 0..n {
-        held[i] = ticket_at(tickets, order[i]);
+    for (i, slot) in order[..n].iter().enumerate() {
+        held[i] = ticket_at(tickets, *slot);
     }
     held
 }

@@ -1,4 +1,3 @@
-use Rattle.std.proofs.Common.{sym, ◌∙◌}
 use Rattle.coordinator.specs.Views.{into}
 use Rattle.coordinator.specs.Change.{mark_asked}
 use Rattle.coordinator.specs.Release.{may_go}

@@ -1,6 +1,6 @@
 use Rattle.std.proofs.Common.{◌∙◌, ap, arith}
 use Rattle.coordinator.specs.Change.{removed}
-use Rattle.coordinator.proofs.Closings.{going_start, going_slot, going_room, going_turn, going_done}
+use Rattle.coordinator.proofs.Closings.{going_start, going_room, going_turn, going_done}
 use Rattle.coordinator.proofs.Coordinator.close_from.Goals as goal
 
 pub loop-left-init : goal.loop-left-init

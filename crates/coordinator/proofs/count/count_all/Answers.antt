@@ -6,18 +6,18 @@ use Rattle.coordinator.specs.Limits.{jobs, databases}
 use Rattle.coordinator.specs.Views.{entry}
 use Rattle.coordinator.proofs.count.count_all.Goals as goal
 
-pub loop-k-init : goal.loop-k-init
-loop-k-init c = sum_none _
+pub loop-set-init : goal.loop-set-init
+loop-set-init c = sum_none _
 
 -- at most all slots at each database
 pub overflow_add-n : goal.overflow_add-n
 overflow_add-n c =
-    let before = sum_le c.loop-k.k jobs _ (λ (u : ℕ) (l : u < c.loop-k.k). size_le jobs (entry c.args.sets.now u)) in
-    let here = size_le jobs (entry c.args.sets.now c.loop-k.k) in
+    let before = sum_le c.loop-set.set-index jobs _ (λ (u : ℕ) (l : u < c.loop-set.set-index). size_le jobs (entry c.args.sets.now u)) in
+    let here = size_le jobs (entry c.args.sets.now c.loop-set.set-index) in
     omega arith
 
-pub loop-k-preserved : goal.loop-k-preserved
-loop-k-preserved c = sum_more _ _ c.loop-k.invariant c.size-n.ensures
+pub loop-set-preserved : goal.loop-set-preserved
+loop-set-preserved c = sum_more _ _ c.loop-set.invariant c.size-n.ensures
 
 pub returns : goal.returns
-returns c = sum_done _ databases _ c.loop-k.auto.k-end c.loop-k-test.false c.loop-k.invariant
+returns c = sum_done _ databases _ c.loop-set.auto.set-index-end c.loop-set-test.false c.loop-set.invariant

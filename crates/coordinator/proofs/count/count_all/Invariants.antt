@@ -5,5 +5,5 @@ use Rattle.coordinator.specs.Limits.{jobs}
 use Rattle.coordinator.specs.Views.{entry}
 use Rattle.coordinator.proofs.count.count_all.Given as goal
 
-abbrev pub invariant-loop-k : goal.invariant-loop-k
-invariant-loop-k l = l.n ≡ sum l.k (λ u. size jobs (entry l.sets u))
+abbrev pub invariant-loop-set : goal.invariant-loop-set
+invariant-loop-set l = l.n ≡ sum l.set-index (λ u. size jobs (entry l.sets u))

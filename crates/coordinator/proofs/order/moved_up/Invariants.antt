@@ -6,4 +6,4 @@ use Rattle.coordinator.specs.Views.{entry}
 use Rattle.coordinator.proofs.order.moved_up.Given as goal
 
 abbrev pub invariant-loop-i : goal.invariant-loop-i
-invariant-loop-i l = (length l.moved ≡ jobs) × (take l.i l.moved ≡ table l.i (λ n. entry l.order (n + tally (not (ltb n l.p)))))
+invariant-loop-i l = (length l.slot-items ≡ jobs) × (take l.i l.slot-items ≡ table l.i (λ n. entry l.order (n + tally (not (ltb n l.p)))))
