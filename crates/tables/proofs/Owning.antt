@@ -1,5 +1,5 @@
 -- Each open slot has a ticket of its own: the definition's test, slot by slot, and the code's, which looks closely only where a ticket may have come before. Assumes nothing.
-use Prim.Native.Nat.{ℕ, ◌%◌, ◌*◌, ◌^◌, ◌<◌}
+use Prim.Native.Nat.{ℕ, ◌-◌, ◌%◌, ◌*◌, ◌^◌, ◌<◌}
 use native.Mathlib.Omega.{arith}
 use native.Mathlib.Nat.{lt_of_le_of_lt, mod-lt}
 use mathlib.Core.Bool.{Bool, true, false, not, ◌&&◌, ◌||◌}
@@ -7,20 +7,19 @@ use mathlib.Core.List.{List}
 use mathlib.Core.Logic.{◌⊎◌, inl, inr, ◌↔◌}
 use mathlib.Core.Path.{◌≡◌, refl, sym, ap, ◌∙◌}
 use borrow.Author.Tests.{eq-eqb, ne_eqb, eqb-true}
-use lib.Bits.{bit_and, bit_or, and_le_l}
+use lib.Bits.{bit_and, bit_or, or_lt, and_le_l}
 use lib.Dec.{eqb, lit<}
-use lib.Pow.{pow-lt}
+use lib.Pow.{pow-lt, ones_lt}
 use Rattle.loops.specs.Loop.{every}
 use Rattle.loops.proofs.Tests.{both, and_left, and_right, and_both, or_cases, or_right, or_false, same_test, untrue}
-use Rattle.loops.proofs.Turns.{every_of, every_same, every_both}
+use Rattle.loops.proofs.Turns.{every_at, every_of, every_same, every_both}
 use Rattle.mask.specs.Lowest.{Lowest}
 use Rattle.mask.specs.Member.{holds, excluding, lowest}
 use Rattle.mask.specs.Members.{union_of}
 use Rattle.mask.proofs.Equal.{same_members, below_iff}
 use Rattle.mask.proofs.Gather.{holds_gather, gathered_lt}
-use Rattle.mask.proofs.Holds.{holds_none, holds_one, holds_or, holds_and, holds_excluding, holds_below}
+use Rattle.mask.proofs.Holds.{holds_none, holds_one, holds_or, holds_and, holds_excluding, holds_below, holds_all}
 use Rattle.mask.proofs.Lowest.{trailing_lowest, lowest_holds}
-use Rattle.mask.proofs.Union.{union_empty}
 use Rattle.mask.proofs.Walking.{rest_falls}
 use Rattle.mask.proofs.Words.{one_shl}
 use Rattle.tables.specs.Limits.{jobs}
@@ -55,11 +54,6 @@ pub free_hold : (tickets : List ℕ) (slots : ℕ) → every jobs (no_ticket tic
     → every jobs (own_ticket tickets slots) ≡ every jobs (ticket_sound tickets slots)
 free_hold tickets slots e = ap (λ (b : Bool). b && every jobs (own_ticket tickets slots)) (sym e) ∙ tickets_are tickets slots
 
--- the free slots' tickets, gathered
-pub free_are : (tickets : List ℕ) (slots : ℕ) → eqb (union_of jobs (free_ticket tickets slots)) 0 ≡ every jobs (no_ticket tickets slots)
-unfolding no_ticket
-free_are tickets slots = union_empty (free_ticket tickets slots) jobs
-
 -- only slot j holds its ticket
 
 module _ (tickets : List ℕ) (slots : ℕ) where
@@ -71,6 +65,28 @@ module _ (tickets : List ℕ) (slots : ℕ) where
   pub holders_lt : (t : ℕ) → holders_in tickets slots t < 2 ^ jobs
   unfolding holders_in sharers_in
   holders_lt t = lt_of_le_of_lt (and_le_l (sharers_in tickets t) slots) (gathered_lt (λ j. eqb (entry tickets j) t) jobs)
+
+  -- no ticket is the ticket 0: each slot is open or has that
+  without : (j : ℕ) → j < jobs → holds (bit_or slots (sharers_in tickets 0)) j ≡ no_ticket tickets slots j
+  unfolding sharers_in no_ticket free_ticket
+  without j l =
+      holds_or slots (sharers_in tickets 0) j
+      ∙ ap (λ (b : Bool). holds slots j || b) (holds_gather (λ j. eqb (entry tickets j) 0) jobs j l)
+      ∙ by (holds slots j)
+    where
+      by : (b : Bool) → b || eqb (entry tickets j) 0 ≡ eqb (elim b [ true ↦ 0 | false ↦ entry tickets j ]) 0
+      by true = refl
+      by false = refl
+
+  pub free_are : slots < 2 ^ jobs → eqb (bit_or slots (sharers_in tickets 0)) (2 ^ jobs - 1) ≡ every jobs (no_ticket tickets slots)
+  unfolding sharers_in
+  free_are small =
+      same_test _ _
+      (λ e. every_of jobs _ (λ j l. sym (without j l) ∙ ap (λ (m : ℕ). holds m j) (eqb-true _ _ e) ∙ holds_all jobs j l))
+      (λ e.
+      eq-eqb _ _
+      (same_members jobs _ _ (or_lt jobs slots (sharers_in tickets 0) small (gathered_lt (λ j. eqb (entry tickets j) 0) jobs)) (ones_lt jobs)
+      (λ j l. without j l ∙ every_at jobs _ e j l ∙ sym (holds_all jobs j l))))
 
   module _ (small : slots < 2 ^ jobs) (j : ℕ) (o : holds slots j ≡ true) where
     abbrev Only : Type 0

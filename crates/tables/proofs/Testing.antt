@@ -7,8 +7,8 @@ use mathlib.Core.Path.{◌≡◌, refl, sym, ap, ◌∙◌}
 use borrow.Author.Tests.{ltb-true, ltb-false, eqb-true, ne_eqb}
 use lib.Bits.{bit_and, bit_or}
 use lib.Dec.{eqb, ltb}
-use lib.ListN.{drop}
-use lib.Seq.{get_or-drop}
+use lib.ListN.{take}
+use Rattle.std.proofs.lemmas.List.{get_or-take}
 use Rattle.loops.specs.Loop.{every}
 use Rattle.loops.proofs.Tests.{and_left}
 use Rattle.loops.proofs.Turns.{over_none, over_more, every_same}
@@ -71,54 +71,20 @@ row_is : (named waiting under b into : ℕ) → eqb (row_wrong named waiting und
 unfolding row_wrong row_sound
 row_is named waiting under b into = or_empty (less jobs into (partners named b)) (less jobs (pressing waiting under b) into)
 
-pub rows_are : (dependencies : List ℕ) (k named waiting under : ℕ)
-    → eqb (union_of jobs (λ b. row_wrong named waiting under b (entry dependencies (k * jobs + b)))) 0 ≡ rows_sound (drop (k * jobs) dependencies) named waiting under
+pub rows_are : (rows : List ℕ) (named waiting under : ℕ)
+    → eqb (union_of jobs (λ b. row_wrong named waiting under b (entry rows b))) 0 ≡ rows_sound rows named waiting under
 unfolding rows_sound
-rows_are dependencies k named waiting under =
-    union_empty (λ b. row_wrong named waiting under b (entry dependencies (k * jobs + b))) jobs
-    ∙ every_same jobs _ _ (λ b l. row_is named waiting under b (entry dependencies (k * jobs + b)) ∙ ap (row_sound named waiting under b) (sym (get_or-drop (k * jobs) dependencies b 0)))
+rows_are rows named waiting under =
+    union_empty (λ b. row_wrong named waiting under b (entry rows b)) jobs
+    ∙ every_same jobs _ _ (λ b l. row_is named waiting under b (entry rows b))
 
-pub marks_fail : (named asked released confirmed held : ℕ) (rows : List ℕ) → marks_sound named asked released confirmed held ≡ false
-    → false ≡ steps_sound named asked released confirmed held rows
+-- the rows of a database among all the dependencies
+rows_first : (rows : List ℕ) (named waiting under : ℕ) → rows_sound (take jobs rows) named waiting under ≡ rows_sound rows named waiting under
+unfolding rows_sound
+rows_first rows named waiting under = every_same jobs _ _ (λ b l. ap (row_sound named waiting under b) (get_or-take jobs rows b 0 l))
+
+pub steps_first : (named asked released confirmed held : ℕ) (rows : List ℕ) (n : ℕ) → n ≡ jobs
+    → steps_sound named asked released confirmed held (take n rows) ≡ steps_sound named asked released confirmed held rows
 unfolding steps_sound
-marks_fail named asked released confirmed held rows e = rw (steps_sound, e)
-
-pub marks_hold : (named asked released confirmed held : ℕ) (rows : List ℕ) → marks_sound named asked released confirmed held ≡ true
-    → rows_sound rows named (less jobs named released) (less jobs released confirmed) ≡ steps_sound named asked released confirmed held rows
-unfolding steps_sound
-marks_hold named asked released confirmed held rows e = rw (steps_sound, e)
-
-pub steps_at : (held : ℕ) (named asked released confirmed dependencies : List ℕ) (k : ℕ)
-    → steps_sound (entry named k) (entry asked k) (entry released k) (entry confirmed k) held (drop (k * jobs) dependencies)
-    ≡ database_sound held named asked released confirmed dependencies k
-unfolding database_sound
-steps_at held named asked released confirmed dependencies k = refl
-
--- all of it
-
-pub sound_is : (tickets : List ℕ) (held : ℕ) (order named asked released confirmed dependencies : List ℕ)
-    → sound_in tickets held order named asked released confirmed dependencies
-    ≡ (within jobs held (open_in named)
-    && every jobs (ticket_sound tickets (open_in named))
-    && every jobs (place_sound order (open_in named))
-    && every databases (database_sound held named asked released confirmed dependencies))
-unfolding sound_in
-sound_is tickets held order named asked released confirmed dependencies = refl
-
--- where it fails first, and where all but the databases hold
-module _ (tickets : List ℕ) (held : ℕ) (order named asked released confirmed dependencies : List ℕ) (slots : ℕ) (p : slots ≡ open_in named) where
-  pub held_fails : ¬ (less jobs held slots ≡ 0) → false ≡ sound_in tickets held order named asked released confirmed dependencies
-  held_fails h = rw (sound_is tickets held order named asked released confirmed dependencies, ← p, ne_eqb (less jobs held slots) 0 h)
-
-  pub tickets_fail : less jobs held slots ≡ 0 → every jobs (ticket_sound tickets slots) ≡ false
-      → false ≡ sound_in tickets held order named asked released confirmed dependencies
-  tickets_fail h t = rw (sound_is tickets held order named asked released confirmed dependencies, ← p, h, t)
-
-  pub order_fails : less jobs held slots ≡ 0 → every jobs (ticket_sound tickets slots) ≡ true → every jobs (place_sound order slots) ≡ false
-      → false ≡ sound_in tickets held order named asked released confirmed dependencies
-  order_fails h t o = rw (sound_is tickets held order named asked released confirmed dependencies, ← p, h, t, o)
-
-  pub databases_decide : less jobs held slots ≡ 0 → every jobs (ticket_sound tickets slots) ≡ true → every jobs (place_sound order slots) ≡ true
-      → every databases (database_sound held named asked released confirmed dependencies)
-      ≡ sound_in tickets held order named asked released confirmed dependencies
-  databases_decide h t o = rw (sound_is tickets held order named asked released confirmed dependencies, ← p, h, t, o)
+steps_first named asked released confirmed held rows n e =
+    rw e (ap (λ (b : Bool). marks_sound named asked released confirmed held && b) (rows_first rows named _ _))

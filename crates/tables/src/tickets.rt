@@ -1,0 +1,88 @@
+// The tickets: who holds one, and whether those of the open slots differ and a free slot has none.
+ghost use Rattle.std.specs.Prelude.{◌≡◌, ℕ, ◌*◌, ◌^◌, ◌<◌, eqb};
+ghost use Rattle.loops.specs.Loop.{every};
+ghost use Rattle.loops.specs.Sum.{tally};
+ghost use Rattle.tables.specs.Limits.{jobs};
+ghost use Rattle.tables.specs.Tables.{sharers_in, holders_in};
+ghost use Rattle.tables.specs.Test.{ticket_sound};
+ghost use Rattle.tables.specs.Parts.{no_ticket, own_ticket, new_ticket};
+
+use numbers::{Slot, Ticket};
+
+// The tickets by slot, and the open slots.
+#[derive(Clone, Copy)]
+pub(crate) struct Tickets<'a> {
+    pub(crate) by_slot: &'a [u16; Slot::COUNT],
+    pub(crate) slots: u32,
+}
+
+// Slot j as a set, where its ticket is t.
+fn sharer(ticket: u16, t: u16, j: usize) -> u32
+    requires { j < jobs }
+    ensures { result ≡ tally (eqb ticket t) * 2 ^ j }
+{
+    if ticket == t { 1 << j } else { 0 }
+}
+
+impl Tickets<'_> {
+    // The slots with ticket t, open or not. No branch: all 32 are compared at once.
+    fn sharers(self, t: u16) -> u32
+        ensures { result ≡ sharers_in self.entry.by_slot.now t }
+    {
+        let mut m = 0;
+        for (j, ticket) in self.by_slot.iter().enumerate() {
+            m |= sharer(*ticket, t, j);
+        }
+        m
+    }
+
+    // The open slots whose job holds ticket t.
+    #[tactic(auto, unfolding(crate::specs::Tables::holders_in))]
+    pub(crate) fn holders(self, t: Ticket) -> u32
+        ensures { result ≡ holders_in self.entry.by_slot.now self.entry.slots t.0 }
+    {
+        self.sharers(t.0) & self.slots
+    }
+
+    // No ticket is the ticket 0, so each slot is open or has that.
+    #[tactic(auto, using(crate::proofs::Owning::free_are))]
+    fn free_without(self) -> bool
+        ensures { result ≡ every jobs (no_ticket self.entry.by_slot.now self.entry.slots) }
+    {
+        self.slots | self.sharers(0) == u32::MAX
+    }
+
+    // Tickets that are equal are equal modulo 64, so slot j is looked at closely only where that was seen before.
+    #[tactic(auto, using(crate::proofs::Owning::new_unseen, crate::proofs::Owning::new_seen))]
+    fn is_new(self, seen: u64, j: usize) -> bool
+        requires { j < jobs }
+        ensures { result ≡ new_ticket self.entry.by_slot.now self.entry.slots seen j }
+    {
+        let t = self.by_slot[j];
+        seen & 1 << (t % 64) == 0 || self.holders(Ticket(t)) == 1 << j
+    }
+
+    fn open_differ(self) -> bool
+        ensures { result ≡ every jobs (own_ticket self.entry.by_slot.now self.entry.slots) }
+    {
+        let mut seen = 0u64;
+        let mut m = self.slots;
+        while m != 0 {
+            let j = mask::slots::lowest(m) as usize;
+            if !self.is_new(seen, j) {
+                return false;
+            }
+            let t = self.by_slot[j];
+            seen |= 1 << (t % 64);
+            m = mask::slots::rest(m);
+        }
+        true
+    }
+
+    #[tactic(auto, using(crate::proofs::Owning::free_fail, crate::proofs::Owning::free_hold))]
+    pub(crate) fn are_sound(self) -> bool
+        ensures { result ≡ every jobs (ticket_sound self.entry.by_slot.now self.entry.slots) }
+    {
+        self.free_without() && self.open_differ()
+    }
+}
