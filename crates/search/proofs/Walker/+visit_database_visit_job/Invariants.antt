@@ -1,28 +1,26 @@
 use Rattle.std.proofs.Common.{◌+◌, ◌*◌}
-use Rattle.search.specs.Visit.{so_far, unmarked}
+use Rattle.search.specs.Visit.{given, unmarked}
 use Rattle.search.proofs.Slots.{AtSlots}
 use Rattle.search.proofs.Databases.{AtDatabases}
-use Rattle.search.proofs.+visit_database_visit_job.Given as goal
+use Rattle.search.proofs.Walker.+visit_database_visit_job.Given as goal
 
 -- a forward move leaves fewer pairs to reach; a visit of a job calls that of a database with as many
 abbrev pub decreases-visit_database : goal.decreases-visit_database
-decreases-visit_database l = 2 * unmarked l.reached.now
+decreases-visit_database l = 2 * unmarked l.self.now.reached
 
 abbrev pub decreases-visit_job : goal.decreases-visit_job
-decreases-visit_job l = 2 * unmarked l.reached.now + 1
+decreases-visit_job l = 2 * unmarked l.self.now.reached + 1
 
 abbrev pub invariant-visit_database-loop-m : goal.invariant-visit_database-loop-m
 invariant-visit_database-loop-m l =
-    AtSlots l.named l.dependencies l.n.0 l.v.0 l.u.0
-    (so_far l.initial.ahead l.initial.reached l.initial.found l.initial.t) (so_far l.ahead l.reached l.found l.t) l.m
+    AtSlots (given l.initial.self) l.v.0 l.u.0 l.initial.self l.self l.m
 
 abbrev pub decreases-visit_database-loop-m : goal.decreases-visit_database-loop-m
 decreases-visit_database-loop-m l = l.m
 
 abbrev pub invariant-visit_job-loop-left : goal.invariant-visit_job-loop-left
 invariant-visit_job-loop-left l =
-    AtDatabases l.named l.dependencies l.n.0 l.v.0 l.initial.left
-    (so_far l.initial.ahead l.initial.reached l.initial.found l.initial.t) (so_far l.ahead l.reached l.found l.t) l.left
+    AtDatabases (given l.initial.self) l.v.0 l.initial.left l.initial.self l.self l.left
 
 abbrev pub decreases-visit_job-loop-left : goal.decreases-visit_job-loop-left
 decreases-visit_job-loop-left l = l.left
