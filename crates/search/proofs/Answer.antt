@@ -8,6 +8,7 @@ use mathlib.Core.Path.{◌≡◌, refl, ap}
 use borrow.Author.Tests.{lt-ltb, le-ltb}
 use lib.ListN.{get_or, replicate}
 use Rattle.std.specs.Borrow.{Bor}
+use Rattle.std.specs.Prelude.{None}
 use Rattle.loops.proofs.Tests.{both}
 use Rattle.mask.specs.Member.{holds}
 use Rattle.walks.specs.Walk.{Link}
@@ -23,7 +24,7 @@ use Rattle.search.specs.declared.Sought.{Sought}
 use Rattle.search.specs.Limits.{jobs, databases}
 use Rattle.search.specs.Search.{graph, searched, sought}
 use Rattle.search.specs.declared.Walker.{Walker}
-use Rattle.search.specs.Visit.{marks, Given, given, graph_of, sets, all_ahead, Ready, Through, Taken, JobVisited}
+use Rattle.search.specs.Visit.{marks, Given, given, graph_of, sets, all_ahead, Ready, Through, Taken, BeforeJob, JobVisited}
 use Rattle.search.proofs.Ahead.{all_grows, all_only}
 
 answer : Seek marks → Sought
@@ -48,7 +49,7 @@ module _ (named dependencies : Bor (List ℕ)) (n : Slot) where
   abbrev g : Given
   g = given s
 
-  pub begin_ready : n.0 < jobs → Ready g s
+  begin_ready : n.0 < jobs → Ready g s
   begin_ready new = record {
     same = refl;
     new_job = new;
@@ -64,8 +65,11 @@ module _ (named dependencies : Bor (List ℕ)) (n : Slot) where
       by v u (inl k) = k
       by v u (inr k) = both k (row_none jobs u v)
 
+  pub begin_asked : n.0 < jobs → BeforeJob s n.0 None
+  begin_asked new = record { ready = begin_ready new; arrived = inl refl }
+
   -- where the whole of it is done, nothing is left to choose
-  module _ {r : Walker} (h : JobVisited g g.new databases s r) where
+  module _ {r : Walker} (h : JobVisited s n.0 None r) where
     through : (v u w : ℕ) → v < jobs → Link (graph_of g) u v w → sets.has r.ahead u v ≡ false → Hit (graph_of g) marks r.reached r.found v u w
     through v u w lv l e = by (h.onward.through v u e)
       where

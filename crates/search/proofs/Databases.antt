@@ -9,18 +9,19 @@ use borrow.Author.Tests.{eqb-true, eqb-false, ne_eqb, not-true}
 use lib.Dec.{eqb}
 use lib.ListN.{get_or, set, length-set}
 use lib.Seq.{get_or-set_same, get_or-set_other}
+use Rattle.std.specs.Prelude.{Option}
+use Rattle.numbers.specs.declared.Database.{Database}
 use Rattle.loops.proofs.Tests.{both, and_left, and_right}
 use Rattle.mask.specs.Member.{holds, excluding, less, lowest}
 use Rattle.mask.specs.Lowest.{Lowest}
 use Rattle.mask.proofs.Change.{excluding_lt}
 use Rattle.mask.proofs.Equal.{below_iff}
 use Rattle.mask.proofs.Holds.{holds_below, holds_none, holds_excluding, holds_less_any}
-use Rattle.mask.proofs.Lowest.{trailing_lowest, lowest_holds}
-use Rattle.mask.proofs.Walking.{rest_falls}
+use Rattle.mask.proofs.Lowest.{lowest_holds}
 use Rattle.search.specs.Limits.{jobs, databases}
 use Rattle.walks.proofs.Walk.{reach_job}
 use Rattle.search.specs.declared.Walker.{Walker}
-use Rattle.search.specs.Visit.{sets, Given, given, graph_of, Ready, Arrived, Standing, Through, Taken, Onward, JobVisited, DatabaseVisited}
+use Rattle.search.specs.Visit.{sets, Given, given, graph_of, Ready, Arrived, Standing, Through, Taken, Onward, BeforeJob, JobVisited, BeforeDatabase, DatabaseVisited, turned}
 use Rattle.search.proofs.Onward.{through_on, onward_refl, onward_then}
 
 -- what is arrived at is a slot
@@ -33,20 +34,29 @@ abbrev pub taking : Walker → ℕ → ℕ → Walker
 taking s v x = record s { ahead = set s.ahead v x }
 
 -- m is left of the databases m₀ that were taken at s, and t is come to since
-pub record AtDatabases (g : Given) (v m₀ : ℕ) (s t : Walker) (m : ℕ) : Type 0 where
-  pub onward : Onward g s t
+pub record AtDatabases (v m₀ : ℕ) (s t : Walker) (m : ℕ) : Type 0 where
+  pub onward : Onward (given s) s t
   pub among : (u : ℕ) → holds m u ≡ true → holds m₀ u ≡ true
-  pub left : (u : ℕ) → holds m₀ u ≡ true → (holds m u ≡ true) ⊎ Through g t.reached t.found v u
+  pub left : (u : ℕ) → holds m₀ u ≡ true → (holds m u ≡ true) ⊎ Through (given s) t.reached t.found v u
 
-pub databases_start : {g : Given} {v m₀ : ℕ} {s : Walker} → Ready g s → AtDatabases g v m₀ s s m₀
+pub databases_start : {v m₀ : ℕ} {s : Walker} → Ready (given s) s → AtDatabases v m₀ s s m₀
 databases_start h = record { onward = onward_refl h; among = λ u e. e; left = λ u e. inl e }
 
 -- what is taken
 
-module _ {g : Given} {v m₀ via : ℕ} {s : Walker} (come : Arrived g v via) (h : Ready g s)
-    (is : m₀ ≡ excluding (get_or s.ahead v 0) via) {x : ℕ} (off : x ≡ less databases (get_or s.ahead v 0) m₀) where
+module _ {s : Walker} {v : ℕ} {through : Option Database} (asked : BeforeJob s v through) {m₀ : ℕ}
+    (is : m₀ ≡ excluding (get_or s.ahead v 0) (turned through)) {x : ℕ} (off : x ≡ less databases (get_or s.ahead v 0) m₀) where
+  abbrev g : Given
+  g = given s
+
+  abbrev via : ℕ
+  via = turned through
+
+  h : Ready g s
+  h = asked.ready
+
   hv : v < jobs
-  hv = arrived_below h come
+  hv = arrived_below h asked.arrived
 
   all_below : get_or s.ahead v 0 < 2 ^ databases
   all_below = (below_iff databases (get_or s.ahead v 0)).1 (λ u e. (h.ahead_named v u hv e).0)
@@ -118,10 +128,10 @@ module _ {g : Given} {v m₀ via : ℕ} {s : Walker} (come : Arrived g v via) (h
         names = q.1;
         via = via;
         turns = eqb-false u via (not-true (eqb u via) (and_left (not (eqb u via)) (sets.has s.ahead u v) p));
-        arrived = come;
+        arrived = asked.arrived;
       }
 
-  pub databases_done : {t : Walker} {m : ℕ} → AtDatabases g v m₀ (taking s v x) t m → m ≡ 0 → JobVisited g v via s t
+  pub databases_done : {t : Walker} {m : ℕ} → AtDatabases v m₀ (taking s v x) t m → m ≡ 0 → JobVisited s v through t
   databases_done {t} {m} at z = record {
     onward = record {
       ready = at.onward.ready;
@@ -151,37 +161,34 @@ module _ {g : Given} {v m₀ via : ℕ} {s : Walker} (come : Arrived g v via) (h
 
 -- a turn: u is the lowest of those left
 
-module _ {g : Given} {v m₀ : ℕ} {s t : Walker} {m : ℕ} (b : m₀ < 2 ^ databases) (at : AtDatabases g v m₀ s t m) (ne : ¬ (m ≡ 0))
-    {u : ℕ} (e : u ≡ lowest databases m) where
-  low : Lowest databases m u
-  low = rw e (trailing_lowest databases m (omega arith) ((below_iff databases m).1 (λ j p. holds_below databases m₀ j b (at.among j p))))
-
-  -- what the visit of u asks
-  pub databases_asked : Standing g v u → Ready (given t) t × Standing (given t) v u
-  databases_asked st = subst (λ (x : Given). Ready x t × Standing x v u) (sym at.onward.ready.same) (at.onward.ready, st)
-
+module _ {v m₀ : ℕ} {s t : Walker} {m : ℕ} (at : AtDatabases v m₀ s t m) {u : ℕ} (low : Lowest databases m u) where
   pub database_taken : holds m₀ u ≡ true
   database_taken = at.among u (lowest_holds low)
 
-  module _ {k : ℕ} (p : k ≡ excluding m (lowest databases m)) where
-    pub databases_fall : k < m
-    databases_fall = rw (p, ← e) (rest_falls low)
+  -- what the visit of u asks
+  pub database_asked : Standing (given s) v u → BeforeDatabase t v u
+  database_asked st = record {
+    ready = subst (λ (x : Given). Ready x t) (sym at.onward.ready.same) at.onward.ready;
+    standing = subst (λ (x : Given). Standing x v u) (sym at.onward.ready.same) st;
+  }
 
-    kept : (j : ℕ) → holds k j ≡ not (eqb j u) && holds m j
-    kept j = rw (p, ← e) (holds_excluding m u j)
+  pub databases_turn : {k : ℕ} → k ≡ excluding m u → (r : Walker) → DatabaseVisited t v u r → AtDatabases v m₀ s r k
+  databases_turn {k} p r visited = record {
+    onward = onward_then at.onward now;
+    among = λ j q. at.among j (and_right (not (eqb j u)) (holds m j) (sym (kept j) ∙ q));
+    left = λ j q. by j (eqb j u) refl (at.left j q);
+  }
+    where
+      now : Onward (given s) t r
+      now = subst (λ (x : Given). Onward x t r) at.onward.ready.same visited.onward
 
-    turn : (r : Walker) → DatabaseVisited g v u t r → AtDatabases g v m₀ s r k
-    turn r now = record {
-      onward = onward_then at.onward now.onward;
-      among = λ j q. at.among j (and_right (not (eqb j u)) (holds m j) (sym (kept j) ∙ q));
-      left = λ j q. by j (eqb j u) refl (at.left j q);
-    }
-      where
-        by : (j : ℕ) → (b : Bool) → eqb j u ≡ b → (holds m j ≡ true) ⊎ Through g t.reached t.found v j
-            → (holds k j ≡ true) ⊎ Through g r.reached r.found v j
-        by j true q h = inr (rw (eqb-true j u q) now.through)
-        by j false q (inl h) = inl (kept j ∙ rw (q, h))
-        by j false q (inr h) = inr (through_on now.onward h)
+      through : Through (given s) r.reached r.found v u
+      through = subst (λ (x : Given). Through x r.reached r.found v u) at.onward.ready.same visited.through
 
-    pub databases_turn : (r : Walker) → DatabaseVisited (given t) v u t r → AtDatabases g v m₀ s r k
-    databases_turn r visited = turn r (subst (λ (x : Given). DatabaseVisited x v u t r) at.onward.ready.same visited)
+      kept : (j : ℕ) → holds k j ≡ not (eqb j u) && holds m j
+      kept j = rw p (holds_excluding m u j)
+
+      by : (j : ℕ) → (b : Bool) → eqb j u ≡ b → (holds m j ≡ true) ⊎ Through (given s) t.reached t.found v j → (holds k j ≡ true) ⊎ Through (given s) r.reached r.found v j
+      by j true q h = inr (rw (eqb-true j u q) through)
+      by j false q (inl h) = inl (kept j ∙ rw (q, h))
+      by j false q (inr h) = inr (through_on now h)

@@ -17,7 +17,7 @@ use Rattle.walks.proofs.Marking.{count_le, put_same, put_more, put_only, count_p
 use Rattle.walks.proofs.Next.{Hit}
 use Rattle.search.specs.Limits.{jobs}
 use Rattle.search.specs.declared.Walker.{Walker}
-use Rattle.search.specs.Visit.{marks, Given, graph_of, unmarked, Ready, Standing, Taken, Onward, JobVisited}
+use Rattle.search.specs.Visit.{marks, Given, graph_of, unmarked, Ready, Standing, Taken, Onward}
 
 -- slot w comes into the set at u, as the code has it
 abbrev pub put_in : List ℕ → ℕ → ℕ → List ℕ
@@ -109,29 +109,29 @@ module _ {g : Given} {v u : ℕ} (at : Standing g v u) {s : Walker} (h : Ready g
 
     -- the search goes on from there, comes to r, and returns
 
-    module _ {r : Walker} (k : JobVisited g w u next r) where
+    module _ {r : Walker} (on : Onward g next r) (done : Taken r.ahead w u) where
       pub forward_on : Onward g s (record r { moves = r.moves + 1 })
       forward_on = record {
         ready = record {
-          same = k.onward.ready.same;
-          new_job = k.onward.ready.new_job;
-          ahead_sets = k.onward.ready.ahead_sets;
-          ahead_named = k.onward.ready.ahead_named;
-          reached_sets = k.onward.ready.reached_sets;
-          found_sets = k.onward.ready.found_sets;
-          sound = k.onward.ready.sound;
-          fits = omega (arith, k.onward.tally, h.fits, one_reached);
+          same = on.ready.same;
+          new_job = on.ready.new_job;
+          ahead_sets = on.ready.ahead_sets;
+          ahead_named = on.ready.ahead_named;
+          reached_sets = on.ready.reached_sets;
+          found_sets = on.ready.found_sets;
+          sound = on.ready.sound;
+          fits = omega (arith, on.tally, h.fits, one_reached);
         };
-        ahead = k.onward.ahead;
-        reached = λ a b e. k.onward.reached a b (more a b e);
-        found = k.onward.found;
-        through = k.onward.through;
-        taken = λ a b e. stood a b (k.onward.taken a b e);
-        tally = omega (arith, k.onward.tally, one_reached);
+        ahead = on.ahead;
+        reached = λ a b e. on.reached a b (more a b e);
+        found = on.found;
+        through = on.through;
+        taken = λ a b e. stood a b (on.taken a b e);
+        tally = omega (arith, on.tally, one_reached);
       }
         where
           this : (a b : ℕ) → ((a ≡ w) × (b ≡ u)) ⊎ (marks.has s.reached a b ≡ true) → (marks.has s.reached a b ≡ true) ⊎ Taken r.ahead a b
-          this a b (inl e) = inr (rw (e.0, e.1) k.taken)
+          this a b (inl e) = inr (rw (e.0, e.1) done)
           this a b (inr e) = inl e
 
           stood : (a b : ℕ) → (marks.has (put_in s.reached u w) a b ≡ true) ⊎ Taken r.ahead a b → (marks.has s.reached a b ≡ true) ⊎ Taken r.ahead a b
@@ -141,5 +141,5 @@ module _ {g : Given} {v u : ℕ} (at : Standing g v u) {s : Walker} (h : Ready g
       pub forward_hit : Hit (graph_of g) marks r.reached r.found v u w
       forward_hit = record {
         closes = λ e. absurd (old e);
-        enters = λ ne. k.onward.reached w u (rw is (put_same marks s.reached w u h.reached_sets l.job at.database));
+        enters = λ ne. on.reached w u (rw is (put_same marks s.reached w u h.reached_sets l.job at.database));
       }

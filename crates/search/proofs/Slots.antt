@@ -9,6 +9,7 @@ use mathlib.Core.Path.{◌≡◌, refl, sym, ap, subst, ◌∙◌}
 use borrow.Author.Tests.{eqb-true, eqb-false, ne_eqb, not-true}
 use lib.Dec.{eqb}
 use lib.ListN.{get_or}
+use Rattle.std.specs.Prelude.{Some}
 use Rattle.loops.proofs.Tests.{both, and_left, and_right}
 use Rattle.mask.specs.Member.{digit, holds, excluding, lowest}
 use Rattle.mask.specs.Lowest.{Lowest}
@@ -21,7 +22,7 @@ use Rattle.walks.proofs.Walk.{reach_not_new}
 use Rattle.walks.proofs.Next.{Hit}
 use Rattle.search.specs.Limits.{jobs}
 use Rattle.search.specs.declared.Walker.{Walker}
-use Rattle.search.specs.Visit.{marks, Given, given, graph_of, unmarked, Ready, Arrived, Standing, Onward, JobVisited, DatabaseVisited, Others}
+use Rattle.search.specs.Visit.{marks, Given, given, graph_of, unmarked, Ready, Arrived, Standing, Onward, BeforeJob, JobVisited, DatabaseVisited, Others}
 use Rattle.search.proofs.Onward.{hit_on, unmarked_le, onward_refl, onward_then}
 use Rattle.search.proofs.Moves.{put_in, closing_on, closing_hit, walk_on, next_ready, next_falls, forward_on, forward_hit}
 
@@ -32,11 +33,11 @@ pub record Fresh (g : Given) (reached : List ℕ) (v u w : ℕ) : Type 0 where
   pub absent : marks.has reached w u ≡ false
 
 -- m is left to try, and t is come to from s
-pub record AtSlots (g : Given) (v u : ℕ) (s t : Walker) (m : ℕ) : Type 0 where
-  pub onward : Onward g s t
+pub record AtSlots (v u : ℕ) (s t : Walker) (m : ℕ) : Type 0 where
+  pub onward : Onward (given s) s t
   pub below : m < 2 ^ jobs
-  pub fresh : (w : ℕ) → holds m w ≡ true → Fresh g t.reached v u w
-  pub left : (w : ℕ) → Link (graph_of g) u v w → (holds m w ≡ true) ⊎ Hit (graph_of g) marks t.reached t.found v u w
+  pub fresh : (w : ℕ) → holds m w ≡ true → Fresh (given s) t.reached v u w
+  pub left : (w : ℕ) → Link (graph_of (given s)) u v w → (holds m w ≡ true) ⊎ Hit (graph_of (given s)) marks t.reached t.found v u w
 
 -- a turn at w comes from t to r
 pub record Turned (g : Given) (v u w : ℕ) (t r : Walker) : Type 0 where
@@ -65,8 +66,8 @@ try_or_hit {g} {v} {u} {all} {m} {t} h o w l ne e = by (holds (get_or t.reached 
     by true p = inr (record { closes = λ q. absurd (reach_not_new (h.sound.walks w u p) q); enters = λ q. p })
     by false p = inl (o.members w l ∙ rw (p, e, ne_eqb w v ne))
 
-pub slots_start : {g : Given} {v u m : ℕ} {s : Walker} → Ready g s → Others (get_or g.named u 0) (get_or s.reached u 0) v m
-    → AtSlots g v u s s m
+pub slots_start : {v u m : ℕ} {s : Walker} → Ready (given s) s → Others (get_or s.named.now u 0) (get_or s.reached u 0) v m
+    → AtSlots v u s s m
 slots_start h o = record {
   onward = onward_refl h;
   below = o.below;
@@ -74,7 +75,10 @@ slots_start h o = record {
   left = λ w l. try_or_hit h o w l.job l.differ l.enters;
 }
 
-module _ {g : Given} {v u : ℕ} {s t : Walker} {m : ℕ} (at : AtSlots g v u s t m) where
+module _ {v u : ℕ} {s t : Walker} {m : ℕ} (at : AtSlots v u s t m) where
+  abbrev g : Given
+  g = given s
+
   -- a turn: w is the lowest of those left
 
   module _ (ne : ¬ (m ≡ 0)) {w : ℕ} (e : w ≡ lowest jobs m) where
@@ -125,17 +129,22 @@ module _ {g : Given} {v u : ℕ} {s t : Walker} {m : ℕ} (at : AtSlots g v u s 
           pub forward_fewer : unmarked (put_in t.reached u w) < unmarked s.reached
           forward_fewer = lt_of_lt_of_le (next_falls st at.onward.ready other slot_link slot_fresh.absent) (unmarked_le at.onward)
 
-          pub forward_asked : Ready (given t) (record t { reached = put_in t.reached u w; moves = t.moves + 1 }) × Arrived (given t) w u
-          forward_asked =
-              subst (λ (x : Given). Ready x (record t { reached = put_in t.reached u w; moves = t.moves + 1 }) × Arrived x w u) (sym at.onward.ready.same)
-              (next_ready st at.onward.ready other slot_link slot_fresh.absent, inr (walk_on st at.onward.ready other slot_link slot_fresh.absent))
+          -- w is marked
+          abbrev goes : Walker
+          goes = record t { reached = put_in t.reached u w; moves = t.moves + 1 }
 
-          pub turn_forward : (r : Walker) → JobVisited (given t) w u (record t { reached = put_in t.reached u w; moves = t.moves + 1 }) r → Turned g v u w t (record r { moves = r.moves + 1 })
+          pub forward_asked : BeforeJob goes w (Some (record { 0 = u }))
+          forward_asked = record {
+            ready = subst (λ (x : Given). Ready x goes) (sym at.onward.ready.same) (next_ready st at.onward.ready other slot_link slot_fresh.absent);
+            arrived = subst (λ (x : Given). Arrived x w u) (sym at.onward.ready.same) (inr (walk_on st at.onward.ready other slot_link slot_fresh.absent));
+          }
+
+          pub turn_forward : (r : Walker) → JobVisited goes w (Some (record { 0 = u })) r → Turned g v u w t (record r { moves = r.moves + 1 })
           turn_forward r k =
-              let k : JobVisited g w u (record t { reached = put_in t.reached u w; moves = t.moves + 1 }) r = subst (λ (x : Given). JobVisited x w u (record t { reached = put_in t.reached u w; moves = t.moves + 1 }) r) at.onward.ready.same k in
+              let on : Onward g goes r = subst (λ (x : Given). Onward x goes r) at.onward.ready.same k.onward in
               record {
-                onward = forward_on st at.onward.ready other slot_link slot_fresh.absent k;
-                hit = λ l. forward_hit st at.onward.ready other slot_link slot_fresh.absent k;
+                onward = forward_on st at.onward.ready other slot_link slot_fresh.absent on k.taken;
+                hit = λ l. forward_hit st at.onward.ready other slot_link slot_fresh.absent on k.taken;
               }
 
     -- x is left of m without w
@@ -162,7 +171,7 @@ module _ {g : Given} {v u : ℕ} {s t : Walker} {m : ℕ} (at : AtSlots g v u s 
           by false q (inl h) = inl (kept j ∙ rw (q, h))
 
       -- nothing more is reached
-      pub slots_rest : {r : Walker} → r.reached ≡ t.reached → Turned g v u w t r → AtSlots g v u s r x
+      pub slots_rest : {r : Walker} → r.reached ≡ t.reached → Turned g v u w t r → AtSlots v u s r x
       slots_rest same now = record {
         onward = onward_then at.onward now.onward;
         below = rw p (excluding_lt jobs m (lowest jobs m) at.below);
@@ -171,7 +180,7 @@ module _ {g : Given} {v u : ℕ} {s t : Walker} {m : ℕ} (at : AtSlots g v u s 
       }
 
       -- k is to try of x, once more is reached
-      pub slots_turn : {r : Walker} {k : ℕ} → Others x (get_or r.reached u 0) v k → Turned g v u w t r → AtSlots g v u s r k
+      pub slots_turn : {r : Walker} {k : ℕ} → Others x (get_or r.reached u 0) v k → Turned g v u w t r → AtSlots v u s r k
       slots_turn {r} {k} o now = record {
         onward = onward_then at.onward now.onward;
         below = o.below;
@@ -187,7 +196,7 @@ module _ {g : Given} {v u : ℕ} {s t : Walker} {m : ℕ} (at : AtSlots g v u s 
       pub others_less : {y z : ℕ} → Others x y v z → z < m
       others_less o = lt_of_le_of_lt o.most rest_less
 
-  pub slots_done : m ≡ 0 → DatabaseVisited g v u s t
+  pub slots_done : m ≡ 0 → DatabaseVisited s v u t
   slots_done z = record { onward = at.onward; through = record { hits = λ w l. by w (at.left w l) } }
     where
       by : (w : ℕ) → (holds m w ≡ true) ⊎ Hit (graph_of g) marks t.reached t.found v u w → Hit (graph_of g) marks t.reached t.found v u w

@@ -96,13 +96,23 @@ module _ (g : Given) where
     pub taken : (w t : ℕ) → marks.has r.reached w t ≡ true → (marks.has s.reached w t ≡ true) ⊎ Taken r.ahead w t
     pub tally : r.moves + due s ≡ s.moves + due r
 
-  pub record JobVisited (v via : ℕ) (s r : Walker) : Type 0 where
-    pub onward : Onward s r
-    pub taken : Taken r.ahead v via
+-- before and after the visit of job v, come to through `via`
+pub record BeforeJob (s : Walker) (v : ℕ) (via : Option Database) : Type 0 where
+  pub ready : Ready (given s) s
+  pub arrived : Arrived (given s) v (turned via)
 
-  pub record DatabaseVisited (v u : ℕ) (s r : Walker) : Type 0 where
-    pub onward : Onward s r
-    pub through : Through r.reached r.found v u
+pub record JobVisited (s : Walker) (v : ℕ) (via : Option Database) (r : Walker) : Type 0 where
+  pub onward : Onward (given s) s r
+  pub taken : Taken r.ahead v (turned via)
+
+-- before and after the visit of database u, come to from job v
+pub record BeforeDatabase (s : Walker) (v u : ℕ) : Type 0 where
+  pub ready : Ready (given s) s
+  pub standing : Standing (given s) v u
+
+pub record DatabaseVisited (s : Walker) (v u : ℕ) (r : Walker) : Type 0 where
+  pub onward : Onward (given s) s r
+  pub through : Through (given s) r.reached r.found v u
 
 -- m has the slots of `all` but v that are not in `reached`
 pub record Others (all reached v m : ℕ) : Type 0 where

@@ -4,8 +4,9 @@ ghost use Rattle.std.specs.Prelude.{◌≡◌, ◌<◌};
 ghost use Rattle.mask.specs.Member.{excluding};
 ghost use Rattle.search.specs.Limits.{jobs, databases};
 ghost use Rattle.search.specs.Search.{sought};
-ghost use Rattle.search.specs.Visit.{put_ahead, all_ahead, given, turned, Ready, Arrived, Standing, JobVisited, DatabaseVisited, Others};
+ghost use Rattle.search.specs.Visit.{put_ahead, all_ahead, turned, BeforeJob, JobVisited, BeforeDatabase, DatabaseVisited, Others};
 
+use mask::Set;
 use numbers::{Database, Slot};
 
 const STEPS: usize = Slot::COUNT * Database::COUNT;
@@ -74,32 +75,30 @@ impl Walker<'_> {
     // They are taken off before the first of them is visited: what comes to v again meanwhile leaves them to this visit.
     #[cycle(visit_database_visit_job)]
     fn visit_job(&mut self, v: Slot, via: Option<Database>)
-        requires { Ready (given self.old) self.old × Arrived (given self.old) v.0 (turned via) }
-        ensures { JobVisited (given self.old) v.0 (turned via) self.old self.new }
+        requires { BeforeJob self.old v.0 via }
+        ensures { JobVisited self.old v.0 via self.new }
     {
         let j = v.0 as usize;
         let all = self.ahead[j];
-        let mut left = without(all, via);
-        self.ahead[j] = mask::databases::less(all, left);
-        while left != 0 {
-            let u = mask::databases::lowest(left) as u8;
+        let taken = without(all, via);
+        self.ahead[j] = all.less(taken);
+        for u in taken.members() {
             self.visit_database(v, Database(u));
-            left = mask::databases::rest(left);
         }
     }
 
     // From database u, come to from slot v which names it, to the other slots that name it. A visit reaches more of them: these are taken off what is left.
     #[cycle(visit_database_visit_job)]
     fn visit_database(&mut self, v: Slot, u: Database)
-        requires { Ready (given self.old) self.old × Standing (given self.old) v.0 u.0 }
-        ensures { DatabaseVisited (given self.old) v.0 u.0 self.old self.new }
+        requires { BeforeDatabase self.old v.0 u.0 }
+        ensures { DatabaseVisited self.old v.0 u.0 self.new }
     {
         let k = u.0 as usize;
         let mut m = others(self.named[k], self.reached[k], v);
+        // The set changes while it is walked, so this is no `for` over its members.
         while m != 0 {
-            let low = mask::slots::lowest(m) as u8;
-            let w = Slot(low);
-            m = mask::slots::rest(m);
+            let w = Slot(m.lowest() as u8);
+            m = m.rest();
             let at = k * Slot::COUNT + w.0 as usize;
             if (self.dependencies[at] >> v.0) % 2 != 1 {
                 if w.0 == self.job.0 {
@@ -124,11 +123,8 @@ fn put_ahead(ahead: &mut [u16; Slot::COUNT], slots: u32, u: usize)
     requires { u < databases }
     ensures { ahead.new ≡ put_ahead slots u ahead.old }
 {
-    let mut left = slots;
-    while left != 0 {
-        let v = mask::slots::lowest(left) as usize;
-        ahead[v] |= 1 << u;
-        left = mask::slots::rest(left);
+    for v in slots.members() {
+        ahead[v as usize] |= 1 << u;
     }
 }
 
@@ -137,7 +133,7 @@ fn without(all: u16, via: Option<Database>) -> u16
     ensures { result ≡ excluding all (turned via) }
 {
     match via {
-        Some(u) => mask::databases::without_member(all, u.0),
+        Some(u) => all.without_member(u.0),
         None => all,
     }
 }

@@ -1,10 +1,9 @@
-use Rattle.std.proofs.Common.{inl, refl}
-use Rattle.search.proofs.Answer.{begin_ready, search_none, search_some}
+use Rattle.search.proofs.Answer.{begin_asked, search_none, search_some}
 use Rattle.search.proofs.search.Goals.{then-n-lt-SLOTS, else-n-lt-SLOTS}
 use Rattle.search.proofs.search.Goals as goal
 
 pub visit_job-requires : goal.visit_job-requires
-visit_job-requires c = rw c.put_all_ahead.ensures (begin_ready _ _ _ c.if-n-lt-SLOTS.true, inl refl)
+visit_job-requires c = rw c.put_all_ahead.ensures (begin_asked _ _ _ c.if-n-lt-SLOTS.true)
 
 pub returns : goal.returns
 returns c =

@@ -1,13 +1,13 @@
 use Rattle.std.proofs.Common.{refl, arith}
 use Rattle.search.proofs.Onward.{room, unmarked_le}
 use Rattle.search.proofs.Slots.{slots_start, slot_below, turn_held, turn_found, turn_closes, forward_fewer, forward_asked, turn_forward, rest_less, others_less, slots_rest, slots_turn, slots_done}
-use Rattle.search.proofs.Databases.{databases_start, taken_below, taking_ready, taken_standing, databases_done, databases_asked, database_taken, databases_fall, databases_turn}
+use Rattle.search.proofs.Databases.{databases_start, taking_ready, taken_standing, databases_done, database_asked, database_taken, databases_turn}
 use Rattle.search.proofs.Walker.+visit_database_visit_job.Goals as goal
 
 -- visit_database: in each turn of its loop at w, the lowest of the slots to try
 
 pub visit_database-loop-m-init : goal.visit_database-loop-m-init
-visit_database-loop-m-init t c = slots_start c.requires.0 c.others-m.ensures
+visit_database-loop-m-init t c = slots_start c.requires.ready c.others-m.ensures
 
 -- the new job, and the dependency is found now
 pub visit_database-overflow_add-self : goal.visit_database-overflow_add-self
@@ -15,22 +15,22 @@ visit_database-overflow_add-self t c = record { fits = room c.loop-m.invariant.o
 
 pub visit_database-loop-m-smaller-then-self-k-ne1 : goal.visit_database-loop-m-smaller-then-self-k-ne1
 visit_database-loop-m-smaller-then-self-k-ne1 t c =
-    rest_less c.loop-m.invariant c.loop-m-test.true c.lowest-low.ensures c.rest-m.ensures
+    rest_less c.loop-m.invariant c.loop-m-test.true c.lowest.ensures c.rest-m.ensures
 
 pub visit_database-loop-m-preserved-then-self-k-ne1 : goal.visit_database-loop-m-preserved-then-self-k-ne1
 visit_database-loop-m-preserved-then-self-k-ne1 t c =
-    slots_rest c.loop-m.invariant c.loop-m-test.true c.lowest-low.ensures c.rest-m.ensures refl
-    (turn_closes c.loop-m.invariant c.loop-m-test.true c.lowest-low.ensures c.requires.1 c.if-self-at-ne1.true c.if-w-self.true c.if-self-k-ne1.true)
+    slots_rest c.loop-m.invariant c.loop-m-test.true c.lowest.ensures c.rest-m.ensures refl
+    (turn_closes c.loop-m.invariant c.loop-m-test.true c.lowest.ensures c.requires.standing c.if-self-at-ne1.true c.if-w-self.true c.if-self-k-ne1.true)
 
 -- the new job, and the dependency is found already
 pub visit_database-loop-m-smaller-else-self-k-ne1 : goal.visit_database-loop-m-smaller-else-self-k-ne1
 visit_database-loop-m-smaller-else-self-k-ne1 t c =
-    rest_less c.loop-m.invariant c.loop-m-test.true c.lowest-low.ensures c.rest-m.ensures
+    rest_less c.loop-m.invariant c.loop-m-test.true c.lowest.ensures c.rest-m.ensures
 
 pub visit_database-loop-m-preserved-else-self-k-ne1 : goal.visit_database-loop-m-preserved-else-self-k-ne1
 visit_database-loop-m-preserved-else-self-k-ne1 t c =
-    slots_rest c.loop-m.invariant c.loop-m-test.true c.lowest-low.ensures c.rest-m.ensures refl
-    (turn_found c.loop-m.invariant c.loop-m-test.true c.lowest-low.ensures c.requires.1 c.if-self-at-ne1.true c.if-w-self.true c.if-self-k-ne1.false)
+    slots_rest c.loop-m.invariant c.loop-m-test.true c.lowest.ensures c.rest-m.ensures refl
+    (turn_found c.loop-m.invariant c.loop-m-test.true c.lowest.ensures c.requires.standing c.if-self-at-ne1.true c.if-w-self.true c.if-self-k-ne1.false)
 
 -- another job: it is visited
 pub visit_database-overflow_add-self-else-w-self : goal.visit_database-overflow_add-self-else-w-self
@@ -38,8 +38,8 @@ visit_database-overflow_add-self-else-w-self t c = record { fits = room c.loop-m
 
 pub visit_database-visit_job-requires : goal.visit_database-visit_job-requires
 visit_database-visit_job-requires t c = (
-  omega (arith, forward_fewer c.loop-m.invariant c.loop-m-test.true c.lowest-low.ensures c.requires.1 c.if-self-at-ne1.true c.if-w-self.false, c.decreases),
-  forward_asked c.loop-m.invariant c.loop-m-test.true c.lowest-low.ensures c.requires.1 c.if-self-at-ne1.true c.if-w-self.false,
+  omega (arith, forward_fewer c.loop-m.invariant c.loop-m-test.true c.lowest.ensures c.requires.standing c.if-self-at-ne1.true c.if-w-self.false, c.decreases),
+  forward_asked c.loop-m.invariant c.loop-m-test.true c.lowest.ensures c.requires.standing c.if-self-at-ne1.true c.if-w-self.false,
 )
 
 pub visit_database-overflow_add-self-else-w-self-2 : goal.visit_database-overflow_add-self-else-w-self-2
@@ -47,49 +47,42 @@ visit_database-overflow_add-self-else-w-self-2 t c = record { fits = room c.visi
 
 pub visit_database-loop-m-smaller-else-w-self : goal.visit_database-loop-m-smaller-else-w-self
 visit_database-loop-m-smaller-else-w-self t c =
-    others_less c.loop-m.invariant c.loop-m-test.true c.lowest-low.ensures c.rest-m.ensures c.others-m-else-w-self.ensures
+    others_less c.loop-m.invariant c.loop-m-test.true c.lowest.ensures c.rest-m.ensures c.others-m-else-w-self.ensures
 
 pub visit_database-loop-m-preserved-else-w-self : goal.visit_database-loop-m-preserved-else-w-self
 visit_database-loop-m-preserved-else-w-self t c =
-    slots_turn c.loop-m.invariant c.loop-m-test.true c.lowest-low.ensures c.rest-m.ensures c.others-m-else-w-self.ensures
-    (turn_forward c.loop-m.invariant c.loop-m-test.true c.lowest-low.ensures c.requires.1 c.if-self-at-ne1.true c.if-w-self.false _ c.visit_job.ensures)
+    slots_turn c.loop-m.invariant c.loop-m-test.true c.lowest.ensures c.rest-m.ensures c.others-m-else-w-self.ensures
+    (turn_forward c.loop-m.invariant c.loop-m-test.true c.lowest.ensures c.requires.standing c.if-self-at-ne1.true c.if-w-self.false _ c.visit_job.ensures)
 
 -- v goes after w
 pub visit_database-loop-m-smaller : goal.visit_database-loop-m-smaller
 visit_database-loop-m-smaller t c =
-    rest_less c.loop-m.invariant c.loop-m-test.true c.lowest-low.ensures c.rest-m.ensures
+    rest_less c.loop-m.invariant c.loop-m-test.true c.lowest.ensures c.rest-m.ensures
 
 pub visit_database-loop-m-preserved : goal.visit_database-loop-m-preserved
 visit_database-loop-m-preserved t c =
-    slots_rest c.loop-m.invariant c.loop-m-test.true c.lowest-low.ensures c.rest-m.ensures refl
-    (turn_held c.loop-m.invariant c.loop-m-test.true c.lowest-low.ensures c.requires.1 c.if-self-at-ne1.false)
+    slots_rest c.loop-m.invariant c.loop-m-test.true c.lowest.ensures c.rest-m.ensures refl
+    (turn_held c.loop-m.invariant c.loop-m-test.true c.lowest.ensures c.requires.standing c.if-self-at-ne1.false)
 
 pub visit_database-returns : goal.visit_database-returns
 visit_database-returns t c = slots_done c.loop-m.invariant c.loop-m-test.false
 
 -- visit_job
 
-pub visit_job-loop-left-init : goal.visit_job-loop-left-init
-visit_job-loop-left-init t c =
-    databases_start (taking_ready c.requires.1 c.requires.0 c.without-left.ensures c.less.ensures)
+pub visit_job-loop-u-init : goal.visit_job-loop-u-init
+visit_job-loop-u-init t c =
+    rw (c.into_iter-u-iterator.ensures.into_iter_gives, c.members-u-items.ensures) (databases_start (taking_ready c.requires c.without-taken.ensures c.less.ensures))
 
 pub visit_job-visit_database-requires : goal.visit_job-visit_database-requires
 visit_job-visit_database-requires t c =
-    let below = taken_below c.requires.1 c.requires.0 c.without-left.ensures c.less.ensures in
-    let taken = database_taken below c.loop-left.invariant c.loop-left-test.true c.lowest-u.ensures in
-    let standing = taken_standing c.requires.1 c.requires.0 c.without-left.ensures c.less.ensures _ taken in
-    (omega (arith, unmarked_le c.loop-left.invariant.onward, c.decreases), databases_asked below c.loop-left.invariant c.loop-left-test.true c.lowest-u.ensures standing)
+    let taken = database_taken c.loop-u.invariant c.in-Some.ensures.steps.0 in
+    let standing = taken_standing c.requires c.without-taken.ensures c.less.ensures _ taken in
+    (omega (arith, unmarked_le c.loop-u.invariant.onward, c.decreases), database_asked c.loop-u.invariant c.in-Some.ensures.steps.0 standing)
 
-pub visit_job-loop-left-smaller : goal.visit_job-loop-left-smaller
-visit_job-loop-left-smaller t c =
-    let below = taken_below c.requires.1 c.requires.0 c.without-left.ensures c.less.ensures in
-    databases_fall below c.loop-left.invariant c.loop-left-test.true c.lowest-u.ensures c.rest-left.ensures
-
-pub visit_job-loop-left-preserved : goal.visit_job-loop-left-preserved
-visit_job-loop-left-preserved t c =
-    let below = taken_below c.requires.1 c.requires.0 c.without-left.ensures c.less.ensures in
-    databases_turn below c.loop-left.invariant c.loop-left-test.true c.lowest-u.ensures c.rest-left.ensures _ c.visit_database.ensures
+pub visit_job-loop-u-preserved : goal.visit_job-loop-u-preserved
+visit_job-loop-u-preserved t c =
+    databases_turn c.loop-u.invariant c.in-Some.ensures.steps.0 c.in-Some.ensures.steps.1 _ c.visit_database.ensures
 
 pub visit_job-returns : goal.visit_job-returns
 visit_job-returns t c =
-    databases_done c.requires.1 c.requires.0 c.without-left.ensures c.less.ensures c.loop-left.invariant c.loop-left-test.false
+    databases_done c.requires c.without-taken.ensures c.less.ensures c.loop-u.invariant c.in-None.ensures.steps.0

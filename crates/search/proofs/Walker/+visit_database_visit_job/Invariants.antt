@@ -1,5 +1,5 @@
 use Rattle.std.proofs.Common.{◌+◌, ◌*◌}
-use Rattle.search.specs.Visit.{given, unmarked}
+use Rattle.search.specs.Visit.{unmarked}
 use Rattle.search.proofs.Slots.{AtSlots}
 use Rattle.search.proofs.Databases.{AtDatabases}
 use Rattle.search.proofs.Walker.+visit_database_visit_job.Given as goal
@@ -12,15 +12,11 @@ abbrev pub decreases-visit_job : goal.decreases-visit_job
 decreases-visit_job l = 2 * unmarked l.self.now.reached + 1
 
 abbrev pub invariant-visit_database-loop-m : goal.invariant-visit_database-loop-m
-invariant-visit_database-loop-m l =
-    AtSlots (given l.initial.self) l.v.0 l.u.0 l.initial.self l.self l.m
+invariant-visit_database-loop-m l = AtSlots l.v.0 l.u.0 l.initial.self l.self l.m
 
 abbrev pub decreases-visit_database-loop-m : goal.decreases-visit_database-loop-m
 decreases-visit_database-loop-m l = l.m
 
-abbrev pub invariant-visit_job-loop-left : goal.invariant-visit_job-loop-left
-invariant-visit_job-loop-left l =
-    AtDatabases (given l.initial.self) l.v.0 l.initial.left l.initial.self l.self l.left
-
-abbrev pub decreases-visit_job-loop-left : goal.decreases-visit_job-loop-left
-decreases-visit_job-loop-left l = l.left
+abbrev pub invariant-visit_job-loop-u : goal.invariant-visit_job-loop-u
+invariant-visit_job-loop-u l =
+    AtDatabases l.v.0 l.taken l.initial.self l.self l.u-iterator.left
