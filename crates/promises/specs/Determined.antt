@@ -1,15 +1,18 @@
 -- Any two results that meet a contract are equal, for every public function of the coordinator and of the floors below it, as their sources have it.
 -- Assumes nothing: these are definitions.
-use Rattle.std.specs.Prelude.{ℕ, Bool, List, ◌≡◌}
+use Rattle.std.specs.Prelude.{ℕ, Bool, List, ◌≡◌, Option, Result}
 use Rattle.mask.specs.Member.{holds, joined, excluding, less, lowest, size}
 use Rattle.numbers.specs.declared.maker.Handed.{Handed}
 use Rattle.numbers.specs.Ticket.{absent_in, after, ticket_from}
+use Rattle.numbers.specs.declared.Ticket.{Ticket}
 use Rattle.search.specs.declared.Sought.{Sought}
 use Rattle.search.specs.Search.{sought}
 use Rattle.tables.specs.Tables.{open_in, holders_in}
 use Rattle.tables.specs.Test.{sound_in}
 use Rattle.tables.specs.Limits.{jobs}
-use Rattle.refusals.specs.Refusal.{number_of, slot_refusal, step_refusal, job_refusal}
+use Rattle.refusals.specs.declared.refusal.Refusal.{Refusal}
+use Rattle.refusals.specs.Refusal.{slot_refusal, step_refusal, job_refusal}
+use Rattle.refusals.specs.Outcome.{outcome}
 use Rattle.coordinator.specs.declared.Coordinator.{Coordinator}
 use Rattle.coordinator.specs.Fresh.{fresh}
 use Rattle.coordinator.specs.Test.{sound}
@@ -22,8 +25,6 @@ use Rattle.coordinator.specs.declared.answers.After.{After}
 use Rattle.coordinator.specs.declared.answers.Opened.{Opened}
 use Rattle.coordinator.specs.declared.answers.Asked.{Asked}
 use Rattle.coordinator.specs.declared.answers.Closed.{Closed}
-use Rattle.numbers.specs.declared.Ticket.{Ticket}
-use Rattle.std.specs.Prelude.{Option}
 
 abbrev pub Determines : {A : Type 0} → (A → Type 0) → Type 0
 Determines {A} P = (x y : A) → P x → P y → x ≡ y
@@ -48,9 +49,10 @@ pub record Determined : Type 0 where
   pub all_sound : (tickets : List ℕ) (held : ℕ) (order named asked released confirmed dependencies : List ℕ)
       → Determines (λ (r : Bool). r ≡ sound_in tickets held order named asked released confirmed dependencies)
   -- its refusals
-  pub of_open : (sound : Bool) (mask slots : ℕ) → Determines (λ (r : ℕ). r ≡ number_of (slot_refusal sound mask (size jobs slots)))
-  pub of_step : (sound : Bool) (found k : ℕ) (names applies : Bool) (number : ℕ) → Determines (λ (r : ℕ). r ≡ number_of (step_refusal sound found k names applies number))
-  pub of_close : (sound : Bool) (found : ℕ) (confirmed held : Bool) → Determines (λ (r : ℕ). r ≡ number_of (job_refusal sound found confirmed held))
+  pub of_open : (sound : Bool) (mask slots : ℕ) → Determines (λ (r : Result Unit Refusal). r ≡ outcome (slot_refusal sound mask (size jobs slots)))
+  pub of_step : (sound : Bool) (found k : ℕ) (names applies : Bool) (own : Refusal)
+      → Determines (λ (r : Result Unit Refusal). r ≡ outcome (step_refusal sound found k names applies own))
+  pub of_close : (sound : Bool) (found : ℕ) (confirmed held : Bool) → Determines (λ (r : Result Unit Refusal). r ≡ outcome (job_refusal sound found confirmed held))
   -- the opening search
   pub search : (named dependencies : List ℕ) (n : ℕ) → Determines (λ (r : Sought). r ≡ sought named dependencies n)
   -- the number maker. `take` gives the ticket and leaves the number maker behind the reference; `hand_out` gives both back.
