@@ -20,10 +20,10 @@ impl Coordinator {
     {
         let n = slots::lowest_of(!slots);
         let count = slots.size() as usize;
-        let handed = tickets::hand_out(self.maker, &self.tickets, &self.order, count);
-        self.maker = handed.maker;
+        let held = tickets::held_tickets(&self.tickets, &self.order, count);
+        let ticket = self.maker.take(&held[..count]);
         let at = n.0 as usize;
-        self.tickets[at] = handed.ticket.0;
+        self.tickets[at] = ticket.0;
         self.order[count] = n.0;
         enter::name_databases(&mut self.named, mask, n);
         enter::lead_released(&mut self.dependencies, &self.released, mask, n);
@@ -31,7 +31,7 @@ impl Coordinator {
         enter::lead_found(&mut self.dependencies, &sought.found, n);
         let added = count::count_all(&sought.found);
         Opened {
-            ticket: handed.ticket,
+            ticket,
             added,
             moves: sought.moves,
         }

@@ -41,22 +41,3 @@ impl NumberMaker {
         Ticket(t)
     }
 }
-
-// What was given out, and the number maker left.
-#[derive(Clone, Copy)]
-pub struct Handed {
-    pub ticket: Ticket,
-    pub maker: NumberMaker,
-}
-
-// The number maker by value: whoever calls this lends nothing.
-pub fn hand_out(maker: NumberMaker, held: &[u16]) -> Handed
-    ensures { (result.ticket.0 ≡ ticket_from held.now maker.next) × (result.maker.next ≡ after result.ticket.0) }
-{
-    let mut left = maker;
-    let ticket = left.take(held);
-    Handed {
-        ticket,
-        maker: left,
-    }
-}

@@ -2,7 +2,7 @@
 -- Assumes nothing: these are definitions.
 use Rattle.std.specs.Prelude.{ℕ, Bool, List, ◌≡◌, Option, Result}
 use Rattle.mask.specs.Member.{holds, joined, excluding, less, lowest, size}
-use Rattle.numbers.specs.declared.maker.Handed.{Handed}
+use Rattle.numbers.specs.declared.NumberMaker.{NumberMaker}
 use Rattle.numbers.specs.Ticket.{absent_in, after, ticket_from}
 use Rattle.numbers.specs.declared.Ticket.{Ticket}
 use Rattle.search.specs.declared.Sought.{Sought}
@@ -46,7 +46,7 @@ pub record Determined : Type 0 where
   -- its tables
   pub open_slots : (named : List ℕ) → Determines (λ (r : ℕ). r ≡ open_in named)
   pub holders_of : (tickets named : List ℕ) (t : ℕ) → Determines (λ (r : ℕ). r ≡ holders_in tickets (open_in named) t)
-  pub all_sound : (tickets : List ℕ) (held : ℕ) (order named asked released confirmed dependencies : List ℕ)
+  pub are_sound : (tickets : List ℕ) (held : ℕ) (order named asked released confirmed dependencies : List ℕ)
       → Determines (λ (r : Bool). r ≡ sound_in tickets held order named asked released confirmed dependencies)
   -- its refusals
   pub of_open : (sound : Bool) (mask slots : ℕ) → Determines (λ (r : Result Unit Refusal). r ≡ outcome (slot_refusal sound mask (size jobs slots)))
@@ -55,11 +55,11 @@ pub record Determined : Type 0 where
   pub of_close : (sound : Bool) (found : ℕ) (confirmed held : Bool) → Determines (λ (r : Result Unit Refusal). r ≡ outcome (job_refusal sound found confirmed held))
   -- the opening search
   pub search : (named dependencies : List ℕ) (n : ℕ) → Determines (λ (r : Sought). r ≡ sought named dependencies n)
-  -- the number maker. `take` gives the ticket and leaves the number maker behind the reference; `hand_out` gives both back.
+  -- the number maker: the ticket that `take` gives, and the number maker that it leaves
   pub absent : (held : List ℕ) (t : ℕ) → Determines (λ (r : Bool). r ≡ absent_in held t)
   pub next_number : (t : ℕ) → Determines (λ (r : ℕ). r ≡ after t)
   pub free_from : (held : List ℕ) (from : ℕ) → Determines (λ (r : ℕ). r ≡ ticket_from held from)
-  pub hand_out : (held : List ℕ) (next : ℕ) → Determines (λ (r : Handed). (r.ticket.0 ≡ ticket_from held next) × (r.maker.next ≡ after r.ticket.0))
+  pub take : (held : List ℕ) (next : ℕ) → Determines (λ (r : Ticket × NumberMaker). (r.0.0 ≡ ticket_from held next) × (r.1.next ≡ after r.0.0))
   -- sets of n slots or databases
   pub member : (m k : ℕ) → Determines (λ (r : Bool). r ≡ holds m k)
   pub with_member : (n m k : ℕ) → Determines (λ (r : ℕ). r ≡ joined n m k)

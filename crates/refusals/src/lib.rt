@@ -8,6 +8,7 @@ ghost use Rattle.tables.specs.Limits.{jobs};
 ghost use Rattle.refusals.specs.Refusal.{slot_refusal, step_refusal, job_refusal};
 ghost use Rattle.refusals.specs.Outcome.{outcome};
 
+use mask::Set;
 use numbers::{Database, Slot};
 pub use refusal::Refusal;
 
@@ -22,7 +23,7 @@ pub fn of_open(sound: bool, mask: u16, slots: u32) -> Result<(), Refusal>
     if mask == 0 {
         return Err(Refusal::NamesNone);
     }
-    if mask::slots::size(slots) as usize == Slot::COUNT {
+    if slots.size() as usize == Slot::COUNT {
         return Err(Refusal::Full);
     }
     Ok(())

@@ -1,11 +1,12 @@
-use Rattle.std.proofs.Common.{◌≡◌, length, arith, rules}
+use Rattle.std.proofs.Common.{◌≡◌, ◌∙◌, sym, ap, length, length-take-le, arith, rules}
+use Rattle.numbers.specs.Ticket.{ticket_from}
 use Rattle.coordinator.specs.Limits.{jobs}
 use Rattle.coordinator.proofs.Tables.{open_slots_are}
 use Rattle.coordinator.proofs.Opening.{room_left, slot_fits, opened_at}
 use Rattle.coordinator.proofs.Coordinator.accept.Goals as goal
 
-pub hand_out-handed-requires : goal.hand_out-handed-requires
-hand_out-handed-requires c = omega (arith, c.size-count.ensures, room_left _ c.requires.1)
+pub held_tickets-held-requires : goal.held_tickets-held-requires
+held_tickets-held-requires c = omega (arith, c.size-count.ensures, room_left _ c.requires.1)
 
 pub bounds-self-at : goal.bounds-self-at
 bounds-self-at c = slot_fits _ c.requires.1 c.ranges.slots.fits _ c.lowest_of-n.ensures
@@ -28,5 +29,11 @@ returns c =
     let sized : length s.tickets ≡ jobs = search rules in
     opened_at s c.args.mask _ _ _ _ _ _ _ _ _ _ sized (open_slots_are s _ c.requires.0)
     (slot_fits _ c.requires.1 c.ranges.slots.fits _ c.lowest_of-n.ensures) c.lowest_of-n.ensures
-    c.size-count.ensures c.hand_out-handed.ensures.0 c.hand_out-handed.ensures.1 c.name_databases.ensures c.lead_released.ensures
+    c.size-count.ensures (c.take-ticket.ensures.0 ∙ ap (λ l. ticket_from l s.maker.next) c.held_tickets-held.ensures) c.take-ticket.ensures.1 c.name_databases.ensures c.lead_released.ensures
     c.search-sought.ensures c.lead_found.ensures c.count_all-added.ensures
+
+pub slice_bounds-held-end : goal.slice_bounds-held-end
+slice_bounds-held-end c = omega (arith, c.size-count.ensures, room_left _ c.requires.1)
+
+pub slice_bounds-take-end : goal.slice_bounds-take-end
+slice_bounds-take-end c = sym (length-take-le c.size-count.result c.held_tickets-held.result (omega (arith, c.size-count.ensures, room_left _ c.requires.1)))
