@@ -7,6 +7,7 @@ use tables::Tables;
 
 impl Coordinator {
     // Whether the state is sound: a call refuses one that isn't.
+    #[tactic(auto, unfolding(crate::specs::Test::sound))]
     pub fn is_sound(&self) -> bool
         ensures { result ≡ sound self.now }
     {

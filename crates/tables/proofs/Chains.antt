@@ -1,5 +1,5 @@
 -- What a chain of iterators makes of a list, or of a range, is the loop over it. Assumes nothing.
-use Rattle.std.proofs.Common.{◌≡◌, ℕ, zero, suc, ◌+◌, ◌≤◌, Bool, ◌&&◌, List, length, get_or, take, fold, bit_or, refl, ap, sym, ◌∙◌, arith, add-one, zero-add}
+use Rattle.std.proofs.Common.{◌≡◌, ℕ, zero, suc, ◌≤◌, Bool, ◌&&◌, List, length, take, fold, bit_or, refl, ap, sym, ◌∙◌, arith, add-one, zero-add}
 use Rattle.std.specs.List.{list_all, range_with_len}
 use Rattle.std.proofs.lemmas.List.{take_all}
 use Rattle.std.proofs.lemmas.List.Sums.{fold_more}
@@ -8,6 +8,7 @@ use Rattle.std.proofs.lemmas.List.FromFn.{length-range_with_len, get_or-range_wi
 use Rattle.loops.specs.Loop.{over, every}
 use Rattle.loops.proofs.Turns.{every_same}
 use Rattle.mask.specs.Members.{union_of}
+use Rattle.mask.proofs.Gather.{gather_none, gather_turn, gather_done}
 use Rattle.tables.specs.Tables.{entry}
 
 fold_take : (l : List ℕ) (n : ℕ) → n ≤ length l → fold bit_or 0 (take n l) ≡ union_of n (entry l)
@@ -31,3 +32,6 @@ all_below p n =
     ap (list_all p) (sym (take_all n (range_with_len 0 n) (omega arith)))
     ∙ all_take p (range_with_len 0 n) n (omega arith)
     ∙ every_same n _ _ (λ i l. ap p (get_or-range_with_len 0 n i 0 l ∙ zero-add i))
+
+-- a loop that gathers a set from its digits
+pub ruleset gathers = (gather_none, gather_turn, gather_done)

@@ -1,6 +1,5 @@
 -- Each open slot has a ticket of its own: the definition's test, slot by slot, and the code's, which looks closely only where a ticket may have come before. Assumes nothing.
 use Prim.Native.Nat.{ℕ, ◌-◌, ◌%◌, ◌*◌, ◌^◌, ◌<◌}
-use native.Mathlib.Omega.{arith}
 use native.Mathlib.Nat.{lt_of_le_of_lt, mod-lt}
 use mathlib.Core.Bool.{Bool, true, false, not, ◌&&◌, ◌||◌}
 use mathlib.Core.List.{List}
@@ -12,15 +11,13 @@ use lib.Dec.{eqb, lit<}
 use lib.Pow.{pow-lt, ones_lt}
 use Rattle.loops.specs.Loop.{every}
 use Rattle.loops.proofs.Tests.{both, and_left, and_right, and_both, or_cases, or_right, or_false, same_test, untrue}
-use Rattle.loops.proofs.Turns.{every_at, every_of, every_same, every_both}
+use Rattle.loops.proofs.Turns.{every_at, every_of, every_same, every_both, every_fails}
 use Rattle.mask.specs.Lowest.{Lowest}
-use Rattle.mask.specs.Member.{holds, excluding, lowest}
-use Rattle.mask.specs.Members.{union_of}
-use Rattle.mask.proofs.Equal.{same_members, below_iff}
+use Rattle.mask.specs.Member.{holds, excluding}
+use Rattle.mask.proofs.Equal.{same_members}
 use Rattle.mask.proofs.Gather.{holds_gather, gathered_lt}
 use Rattle.mask.proofs.Holds.{holds_none, holds_one, holds_or, holds_and, holds_excluding, holds_below, holds_all}
-use Rattle.mask.proofs.Lowest.{trailing_lowest, lowest_holds}
-use Rattle.mask.proofs.Walking.{rest_falls}
+use Rattle.mask.proofs.Lowest.{lowest_holds}
 use Rattle.mask.proofs.Words.{one_shl}
 use Rattle.tables.specs.Limits.{jobs}
 use Rattle.tables.specs.Tables.{entry, sharers_in, holders_in}
@@ -147,9 +144,6 @@ module _ (tickets : List ℕ) (slots : ℕ) where
 
   module _ (small : slots < 2 ^ jobs) where
     module _ (seen m w : ℕ) (met : Met seen m) where
-      pub met_lowest : ¬ (m ≡ 0) → w ≡ lowest jobs m → Lowest jobs m w
-      met_lowest ne e = rw e (trailing_lowest jobs m (omega arith) ((below_iff jobs m).1 (λ j p. holds_below jobs slots j small (met.among j p))))
-
       module _ (l : Lowest jobs m w) (new : new_ticket tickets slots seen w ≡ true) where
         -- none of those met has the ticket of w
         apart : (a : ℕ) → holds slots a ≡ true → holds m a ≡ false → entry tickets a ≡ entry tickets w → a ≡ w
@@ -199,16 +193,12 @@ module _ (tickets : List ℕ) (slots : ℕ) where
             pair a b p q t (inr e) (inl f) = apart a p e (t ∙ ap (λ (i : ℕ). entry tickets i) f) ∙ sym f
             pair a b p q t (inr e) (inr f) = met.differ a b p e q f t
 
-      pub met_own : (ne : ¬ (m ≡ 0)) (e : w ≡ lowest jobs m) → new_ticket tickets slots seen w ≡ false → own_ticket tickets slots w ≡ false
-      met_own ne e f = not_own seen w (met.among w (lowest_holds (met_lowest ne e))) f
+      pub met_own : Lowest jobs m w → false ≡ new_ticket tickets slots seen w → false ≡ every jobs (own_ticket tickets slots)
+      met_own l e = every_fails _ jobs _ l.within (not_own seen w (met.among w (lowest_holds l)) (sym e))
 
-      pub met_again : (k : ℕ) (ne : ¬ (m ≡ 0)) (e : w ≡ lowest jobs m) → new_ticket tickets slots seen w ≡ true → k ≡ excluding m (lowest jobs m)
+      pub met_again : (k : ℕ) → Lowest jobs m w → true ≡ new_ticket tickets slots seen w → k ≡ excluding m w
           → Met (bit_or seen (1 * 2 ^ (entry tickets w % 64) % 2 ^ 64)) k
-      met_again k ne e new p =
-          rw (one_shl 64 (entry tickets w % 64) (mod-lt (entry tickets w) (lit< tt)), p, ← e) (met_turn (met_lowest ne e) new)
-
-      pub met_falls : (k : ℕ) (ne : ¬ (m ≡ 0)) (e : w ≡ lowest jobs m) → k ≡ excluding m (lowest jobs m) → k < m
-      met_falls k ne e p = rw (p, ← e) (rest_falls (met_lowest ne e))
+      met_again k l new p = rw (one_shl 64 (entry tickets w % 64) (mod-lt (entry tickets w) (lit< tt)), p) (met_turn l (sym new))
 
     pub met_all : (seen m : ℕ) → m ≡ 0 → Met seen m → true ≡ every jobs (own_ticket tickets slots)
     met_all seen m z met = sym (every_of jobs _ (λ j l. at j (holds slots j) refl))
@@ -218,3 +208,10 @@ module _ (tickets : List ℕ) (slots : ℕ) where
 
         at : (j : ℕ) (b : Bool) → holds slots j ≡ b → own_ticket tickets slots j ≡ true
         at j b e = own_at j b e (λ o. (only_iff small j (e ∙ o)).1 (λ a p q. met.differ a j p (none a) (e ∙ o) (none j) q))
+
+-- for the code: the two tests of the tickets, and whether one is new
+pub ruleset both_tests = (free_fail, free_hold)
+
+pub ruleset news = (new_unseen, new_seen)
+
+pub ruleset walk = (met_none, met_own, met_again, met_all)

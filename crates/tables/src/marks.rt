@@ -4,6 +4,7 @@ ghost use Rattle.tables.specs.Limits.{jobs};
 ghost use Rattle.tables.specs.Test.{marks_sound, steps_sound};
 
 use crate::rows::Steps;
+use mask::Set;
 
 // The slots whose job names the database, and those whose step there is asked, released, confirmed.
 #[derive(Clone, Copy)]
@@ -20,10 +21,10 @@ impl Marks {
     fn are_sound(self, held: u32) -> bool
         ensures { result ≡ marks_sound self.named self.asked self.released self.confirmed held }
     {
-        self.asked & !self.named
-            | self.released & !self.asked
-            | self.confirmed & !self.released
-            | held & self.named & !self.confirmed
+        self.asked.less(self.named)
+            | self.released.less(self.asked)
+            | self.confirmed.less(self.released)
+            | (held & self.named).less(self.confirmed)
             == 0
     }
 
@@ -35,8 +36,8 @@ impl Marks {
     {
         let steps = Steps {
             named: self.named,
-            waiting: self.named & !self.released,
-            under_way: self.released & !self.confirmed,
+            waiting: self.named.less(self.released),
+            under_way: self.released.less(self.confirmed),
         };
         self.are_sound(held) && steps.rows_sound(rows)
     }

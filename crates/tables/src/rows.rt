@@ -6,6 +6,8 @@ ghost use Rattle.tables.specs.Tables.{entry};
 ghost use Rattle.tables.specs.Test.{partners, pressing, rows_sound};
 ghost use Rattle.tables.specs.Parts.{row_wrong, quiet};
 
+use mask::Set;
+
 // The slots whose job names the database, those whose step there waits to be released, and those whose step is under way.
 #[derive(Clone, Copy)]
 pub(crate) struct Steps {
@@ -24,6 +26,7 @@ fn are_empty(rows: &[u32]) -> bool
 
 impl Steps {
     // Who may go before slot b, and who has to.
+    #[tactic(auto, using(crate::proofs::Testing::shifts), unfolding(crate::specs::Test::partners))]
     fn partners(self, b: usize) -> u32
         requires { b < jobs }
         ensures { result ≡ partners self.named b }
@@ -36,6 +39,7 @@ impl Steps {
         }
     }
 
+    #[tactic(auto, using(crate::proofs::Testing::shifts), unfolding(crate::specs::Test::pressing))]
     fn pressing(self, b: usize) -> u32
         requires { b < jobs }
         ensures { result ≡ pressing self.waiting self.under_way b }
@@ -57,6 +61,7 @@ impl Steps {
     }
 
     // Row by row. What is wrong is gathered without a branch.
+    #[tactic(auto, using(crate::proofs::Testing::gathered_rows))]
     fn rows_apart(self, rows: &[u32]) -> bool
         requires { length rows.now ≡ jobs }
         ensures { result ≡ rows_sound rows.now self.named self.waiting self.under_way }
@@ -73,7 +78,7 @@ impl Steps {
     fn are_quiet(self) -> bool
         ensures { result ≡ quiet self.named self.waiting self.under_way }
     {
-        mask::slots::rest(self.named) == 0 && (self.waiting == 0 || self.under_way == 0)
+        self.named.rest() == 0 && (self.waiting == 0 || self.under_way == 0)
     }
 
     // A quiet database, as many are where few jobs are open, takes a fifth of the time.

@@ -8,28 +8,26 @@ ghost use Rattle.tables.specs.Parts.{place_in};
 use crate::marks::Marks;
 use crate::tickets::Tickets;
 use crate::{Tables, slots};
+use mask::Set;
 use numbers::{Database, Slot};
 
 // Place i of the opening order, with slot o: one of those left, or zero past the n open ones.
-#[tactic(auto, using(crate::proofs::Testing::place_open, crate::proofs::Testing::place_end))]
+#[tactic(auto, using(crate::proofs::Testing::one_place))]
 fn place_sound(left: u32, n: usize, i: usize, o: u8) -> bool
     ensures { result ≡ place_in left n i o }
 {
-    if i < n {
-        mask::slots::holds(left, o)
-    } else {
-        o == 0
-    }
+    if i < n { left.holds(o) } else { o == 0 }
 }
 
 impl Tables<'_> {
+    #[tactic(auto, using(crate::proofs::Testing::places))]
     fn order_sound(self, slots: u32) -> bool
         ensures { result ≡ every jobs (place_sound self.entry.order.now slots) }
     {
-        let n = mask::slots::size(slots) as usize;
+        let n = slots.size() as usize;
         let mut listed = 0u32;
         for (i, o) in self.order.iter().enumerate() {
-            if !place_sound(slots & !listed, n, i, *o) {
+            if !place_sound(slots.less(listed), n, i, *o) {
                 return false;
             }
             listed |= 1 << *o;
@@ -70,7 +68,7 @@ impl Tables<'_> {
             by_slot: self.tickets,
             slots,
         };
-        self.held & !slots == 0
+        self.held.less(slots) == 0
             && tickets.are_sound()
             && self.order_sound(slots)
             && self.databases_sound()

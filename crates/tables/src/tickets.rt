@@ -7,6 +7,7 @@ ghost use Rattle.tables.specs.Tables.{sharers_in, holders_in};
 ghost use Rattle.tables.specs.Test.{ticket_sound};
 ghost use Rattle.tables.specs.Parts.{no_ticket, own_ticket, new_ticket};
 
+use mask::Set;
 use numbers::{Slot, Ticket};
 
 // The tickets by slot, and the open slots.
@@ -26,6 +27,7 @@ fn sharer(ticket: u16, t: u16, j: usize) -> u32
 
 impl Tickets<'_> {
     // The slots with ticket t, open or not. No branch: all 32 are compared at once.
+    #[tactic(auto, using(crate::proofs::Chains::gathers), unfolding(crate::specs::Tables::sharers_in))]
     fn sharers(self, t: u16) -> u32
         ensures { result ≡ sharers_in self.entry.by_slot.now t }
     {
@@ -53,33 +55,31 @@ impl Tickets<'_> {
     }
 
     // Tickets that are equal are equal modulo 64, so slot j is looked at closely only where that was seen before.
-    #[tactic(auto, using(crate::proofs::Owning::new_unseen, crate::proofs::Owning::new_seen))]
-    fn is_new(self, seen: u64, j: usize) -> bool
+    #[tactic(auto, using(crate::proofs::Owning::news))]
+    fn is_new(self, seen: u64, j: u8) -> bool
         requires { j < jobs }
         ensures { result ≡ new_ticket self.entry.by_slot.now self.entry.slots seen j }
     {
-        let t = self.by_slot[j];
+        let t = self.by_slot[j as usize];
         seen & 1 << (t % 64) == 0 || self.holders(Ticket(t)) == 1 << j
     }
 
+    #[tactic(auto, using(crate::proofs::Owning::walk))]
     fn open_differ(self) -> bool
         ensures { result ≡ every jobs (own_ticket self.entry.by_slot.now self.entry.slots) }
     {
-        let mut seen = 0u64;
-        let mut m = self.slots;
-        while m != 0 {
-            let j = mask::slots::lowest(m) as usize;
+        let mut seen = 0;
+        for j in self.slots.members() {
+            let t = self.by_slot[j as usize];
             if !self.is_new(seen, j) {
                 return false;
             }
-            let t = self.by_slot[j];
             seen |= 1 << (t % 64);
-            m = mask::slots::rest(m);
         }
         true
     }
 
-    #[tactic(auto, using(crate::proofs::Owning::free_fail, crate::proofs::Owning::free_hold))]
+    #[tactic(auto, using(crate::proofs::Owning::both_tests))]
     pub(crate) fn are_sound(self) -> bool
         ensures { result ≡ every jobs (ticket_sound self.entry.by_slot.now self.entry.slots) }
     {
