@@ -37,12 +37,7 @@ pub(crate) fn may_close(dependencies: &[u32; Coordinator::STEPS], j: Slot) -> bo
     ensures { result ≡ may_close_in dependencies.now j.0 }
 {
     let b = j.0 as usize;
-    for k in 0..Coordinator::DATABASES {
-        if dependencies[k * Coordinator::JOBS + b] != 0 {
-            return false;
-        }
-    }
-    true
+    (0..Coordinator::DATABASES).all(|k| dependencies[k * Coordinator::JOBS + b] == 0)
 }
 
 // Slot j as a set, where it may close.

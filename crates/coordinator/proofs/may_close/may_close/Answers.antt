@@ -1,19 +1,16 @@
-use Rattle.std.proofs.Common.{eq-eqb, ne_eqb}
-use Rattle.loops.proofs.Turns.{every_none, every_on, every_fails, every_done}
-use Rattle.coordinator.specs.Limits.{databases}
+use Rattle.std.proofs.Common.{◌+◌, ◌*◌, ◌∙◌, eqb, rules, refl}
+use Rattle.std.proofs.lemmas.Iterator.{YieldsList-from_range}
+use Rattle.std.proofs.lemmas.Iterator.Search.{all_from_yields_List}
+use borrow.Author.Tests.{tests}
+use Rattle.tables.proofs.Chains.{all_below}
+use Rattle.coordinator.specs.Limits.{jobs, databases}
+use Rattle.coordinator.specs.Views.{entry}
 use Rattle.coordinator.specs.Tables.{may_close_in}
 use Rattle.coordinator.proofs.may_close.may_close.Goals as goal
 
-pub loop-k-init : goal.loop-k-init
-loop-k-init c = every_none _
-
-pub loop-k-preserved : goal.loop-k-preserved
-loop-k-preserved c = every_on _ _ c.loop-k.invariant (eq-eqb _ _ c.if-dependencies-k-ne0.false)
-
-pub returns-then-dependencies-k-ne0 : goal.returns-then-dependencies-k-ne0
-unfolding may_close_in
-returns-then-dependencies-k-ne0 c = every_fails _ databases _ c.loop-k-test.true (ne_eqb _ _ c.if-dependencies-k-ne0.true)
-
 pub returns : goal.returns
 unfolding may_close_in
-returns c = every_done _ databases _ c.loop-k.auto.k-end c.loop-k-test.false c.loop-k.invariant
+returns c =
+    all_from_yields_List (λ k. eqb (entry c.args.dependencies.now (k * jobs + c.args.j.0)) 0) _ _ _ c.all.ensures.ran
+    (YieldsList-from_range 0 databases databases refl refl) (λ x b q k. search (rules, tests))
+    ∙ all_below _ databases
