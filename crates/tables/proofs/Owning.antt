@@ -10,7 +10,7 @@ use lib.Bits.{bit_and, bit_or, or_lt, and_le_l}
 use lib.Dec.{eqb, lit<}
 use lib.Pow.{pow-lt, ones_lt}
 use Rattle.loops.specs.Loop.{every}
-use Rattle.loops.proofs.Tests.{both, and_left, and_right, and_both, or_cases, or_right, or_false, same_test, untrue}
+use Rattle.loops.proofs.Tests.{both, and_left, and_right, and_true, and_both, or_cases, or_right, or_false, same_test, untrue}
 use Rattle.loops.proofs.Turns.{every_at, every_of, every_same, every_both, every_fails}
 use Rattle.mask.specs.Lowest.{Lowest}
 use Rattle.mask.specs.Member.{holds, excluding}
@@ -26,10 +26,6 @@ use Rattle.tables.specs.Parts.{free_ticket, no_ticket, own_ticket, new_ticket}
 
 -- in two tests
 
-and_yes : (b : Bool) → b && true ≡ b
-and_yes true = refl
-and_yes false = refl
-
 ticket_at_lem : (tickets : List ℕ) (slots j : ℕ) → no_ticket tickets slots j && own_ticket tickets slots j ≡ ticket_sound tickets slots j
 unfolding no_ticket free_ticket own_ticket ticket_sound holders_in
 ticket_at_lem tickets slots j = by (holds slots j)
@@ -38,9 +34,9 @@ ticket_at_lem tickets slots j = by (holds slots j)
         → eqb (elim b [ true ↦ 0 | false ↦ entry tickets j ]) 0 && (not b || eqb (bit_and (sharers_in tickets (entry tickets j)) slots) (2 ^ j))
         ≡ elim b [ true ↦ eqb (bit_and (sharers_in tickets (entry tickets j)) slots) (2 ^ j) | false ↦ eqb (entry tickets j) 0 ]
     by true = refl
-    by false = and_yes (eqb (entry tickets j) 0)
+    by false = and_true (eqb (entry tickets j) 0)
 
-pub tickets_are : (tickets : List ℕ) (slots : ℕ)
+tickets_are : (tickets : List ℕ) (slots : ℕ)
     → every jobs (no_ticket tickets slots) && every jobs (own_ticket tickets slots) ≡ every jobs (ticket_sound tickets slots)
 tickets_are tickets slots = sym (every_both jobs (no_ticket tickets slots) (own_ticket tickets slots)) ∙ every_same jobs _ _ (λ j l. ticket_at_lem tickets slots j)
 
@@ -209,9 +205,9 @@ module _ (tickets : List ℕ) (slots : ℕ) where
         at : (j : ℕ) (b : Bool) → holds slots j ≡ b → own_ticket tickets slots j ≡ true
         at j b e = own_at j b e (λ o. (only_iff small j (e ∙ o)).1 (λ a p q. met.differ a j p (none a) (e ∙ o) (none j) q))
 
--- for the code: the two tests of the tickets, and whether one is new
-pub ruleset both_tests = (free_fail, free_hold)
+-- for the code: the two tests, whether a ticket is new, and the walk over the open slots
+pub ruleset two_tests = (free_fail, free_hold)
 
-pub ruleset news = (new_unseen, new_seen)
+pub ruleset new_or_not = (new_unseen, new_seen)
 
 pub ruleset walk = (met_none, met_own, met_again, met_all)

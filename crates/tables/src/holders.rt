@@ -7,11 +7,7 @@ use crate::tickets::Tickets;
 use numbers::{Database, Slot, Ticket};
 
 // The open slots whose job holds ticket t, where the open slots are not at hand.
-pub fn holders_of<'a>(
-    tickets: &'a [u16; Slot::COUNT],
-    named: &'a [u32; Database::COUNT],
-    t: Ticket,
-) -> u32
+pub fn holders_of(tickets: &[u16; Slot::COUNT], named: &[u32; Database::COUNT], t: Ticket) -> u32
     ensures { result ≡ holders_in tickets.now (open_in named.now) t.0 }
 {
     let slots = slots::open_slots(named);

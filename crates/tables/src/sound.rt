@@ -30,6 +30,7 @@ impl Tables<'_> {
             if !place_sound(slots.less(listed), n, i, *o) {
                 return false;
             }
+            // Slower with `with_member` (tried), which tests once more that o is a slot.
             listed |= 1 << *o;
         }
         true

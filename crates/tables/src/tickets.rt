@@ -1,5 +1,5 @@
 // The tickets: who holds one, and whether those of the open slots differ and a free slot has none.
-ghost use Rattle.std.specs.Prelude.{◌≡◌, ℕ, ◌*◌, ◌^◌, ◌<◌, eqb};
+ghost use Rattle.std.specs.Prelude.{◌≡◌, ◌*◌, ◌^◌, ◌<◌, ◌==◌};
 ghost use Rattle.loops.specs.Loop.{every};
 ghost use Rattle.loops.specs.Sum.{tally};
 ghost use Rattle.tables.specs.Limits.{jobs};
@@ -20,7 +20,7 @@ pub(crate) struct Tickets<'a> {
 // Slot j as a set, where its ticket is t.
 fn sharer(ticket: u16, t: u16, j: usize) -> u32
     requires { j < jobs }
-    ensures { result ≡ tally (eqb ticket t) * 2 ^ j }
+    ensures { result ≡ tally (ticket == t) * 2 ^ j }
 {
     if ticket == t { 1 << j } else { 0 }
 }
@@ -55,7 +55,7 @@ impl Tickets<'_> {
     }
 
     // Tickets that are equal are equal modulo 64, so slot j is looked at closely only where that was seen before.
-    #[tactic(auto, using(crate::proofs::Owning::news))]
+    #[tactic(auto, using(crate::proofs::Owning::new_or_not))]
     fn is_new(self, seen: u64, j: u8) -> bool
         requires { j < jobs }
         ensures { result ≡ new_ticket self.entry.by_slot.now self.entry.slots seen j }
@@ -79,7 +79,7 @@ impl Tickets<'_> {
         true
     }
 
-    #[tactic(auto, using(crate::proofs::Owning::both_tests))]
+    #[tactic(auto, using(crate::proofs::Owning::two_tests))]
     pub(crate) fn are_sound(self) -> bool
         ensures { result ≡ every jobs (ticket_sound self.entry.by_slot.now self.entry.slots) }
     {
