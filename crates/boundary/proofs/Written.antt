@@ -10,8 +10,8 @@ use Rattle.coordinator.specs.Limits.{jobs}
 use Rattle.coordinator.specs.Answer.{Values}
 use Rattle.layout.specs.Put.{put}
 use Rattle.layout.specs.Bytes.{bytes_of, bytes_of_all}
-use Rattle.layout.proofs.Put.{put_part, filled_none, filled_on, filled_to, filled_long}
-use Rattle.layout.proofs.Number.{bytes_low}
+use Rattle.layout.proofs.Put.{filled_none, filled_on, filled_to, filled_long}
+use Rattle.layout.proofs.Number.{put_bytes, bytes_low}
 use Rattle.layout.proofs.Numbers.{length_all, same_all, filled_number, filled_numbers}
 use Rattle.record.specs.declared.answer.Numbers.{Numbers}
 use Rattle.record.specs.Answer.{numbers_of}
@@ -44,7 +44,7 @@ row_done n tickets o at o₁ zeros o₂ o₃ l h e₁ z e₂ e₃ =
     let f₁ = filled_on o at [] at o (number_bytes n) 10 o₁ (filled_none o at (omega arith)) refl (omega arith) e₁ in
     let room : 10 + 6 + at ≤ length o₁ = omega (arith, filled_long o at _ (at + 10) o₁ f₁) in
     let six : length (take (at + 16 - (at + 10)) (drop (at + 10) o₁)) ≡ 6 = length-take-le (at + 16 - (at + 10)) (drop (at + 10) o₁) (simp length-drop (omega arith)) ∙ omega arith in
-    let f₂ = filled_to (at + 16) (filled_number o at _ (at + 10) o₁ 6 0 o₂ f₁ (omega arith) (e₂ ∙ put_part o₁ (bytes_of 6 0) zeros (at + 10) (at + 16) (z ∙ ap (λ k. replicate k 0) six) (omega arith))) (omega arith) in
+    let f₂ = filled_to (at + 16) (filled_number o at _ (at + 10) o₁ 6 0 o₂ f₁ (omega arith) (e₂ ∙ put_bytes 6 0 o₁ zeros (at + 10) (at + 16) (z ∙ ap (λ k. replicate k 0) six) (omega arith))) (omega arith) in
     (filled_numbers o at _ (at + 16) o₂ 2 jobs tickets o₃ f₂ l (omega arith) e₃).is
 
 -- tickets that read the same, zeros where there are no more, are written the same

@@ -1,7 +1,7 @@
-// Numbers one after another in a buffer, written and read.
+// Numbers one after another in a buffer, written and read. By index: of a slice whose pieces a `zip` lends to be written, a proof knows the length alone.
 ghost use Rattle.std.specs.Prelude.{◌≡◌, ◌+◌, ◌*◌, ◌≤◌, length, map};
 ghost use Rattle.layout.specs.Put.{put};
-ghost use Rattle.layout.specs.Bytes.{bytes_of_all, numbers_at, number_at};
+ghost use Rattle.layout.specs.Bytes.{bytes_of_all, numbers_at};
 
 use crate::bytes::Number;
 

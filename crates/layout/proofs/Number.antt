@@ -1,14 +1,15 @@
 -- One number as bytes. Assumes nothing.
-use Prim.Native.Nat.{ℕ, zero, suc, ◌+◌, ◌*◌, ◌/◌, ◌%◌, ◌^◌, ◌≤◌, ◌<◌}
+use Prim.Native.Nat.{ℕ, zero, suc, ◌+◌, ◌-◌, ◌*◌, ◌/◌, ◌%◌, ◌^◌, ◌≤◌, ◌<◌}
 use mathlib.Core.Path.{◌≡◌, refl, ap, ◌∙◌}
 use mathlib.Core.List.{List, [], ◌∷◌}
 use native.Mathlib.Omega.{arith}
 use native.Mathlib.Nat.{pow-suc}
 use native.Mathlib.Numerals.{add-one}
 use lib.ListN.{length, set, get_or}
-use mir.Syntax.{w16, w32}
+use mir.Syntax.{w32}
+use borrow.Rule.Slice.PartMut.{put_mid}
 use Rattle.std.specs.Int.{to_le_bytes}
-use lib.Seq.{drop-cons}
+use lib.Seq.{drop-cons, drop-drop}
 use Rattle.layout.specs.Put.{put}
 use Rattle.layout.specs.Bytes.{bytes_of, number_of, number_at}
 use Rattle.layout.proofs.Put.{put_one}
@@ -22,6 +23,13 @@ length_bytes (suc k) x = ap suc (length_bytes k (x / 256))
 pub put_byte : (o : List ℕ) (at x : ℕ) → at < length o → x < 256 → set o at x ≡ put o at (bytes_of 1 x)
 unfolding bytes_of
 put_byte o at x l h = let e : x ≡ x % 256 = omega arith in put_one o at x l ∙ ap (λ (y : ℕ). put o at (y ∷ [])) e
+
+-- bytes that are written to a part of a buffer
+pub put_bytes : (k x : ℕ) (o u : List ℕ) (at j : ℕ) → u ≡ bytes_of k x → j ≡ at + k → put_mid at (j - at) o u ≡ put o at (bytes_of k x)
+unfolding put
+put_bytes k x o u at j q e =
+    let n : j - at ≡ k = omega (arith, e) in
+    rw (q, n, length_bytes k x, drop-drop k at o)
 
 -- there and back
 pub number_bytes_lem : (k x : ℕ) → x < 256 ^ k → number_of (bytes_of k x) ≡ x
@@ -62,11 +70,7 @@ pub number_four : (b : List ℕ) (at : ℕ) → at + 4 ≤ length b → number_a
 number_four b at h =
     omega (arith, number_more 3 b at (at + 1) refl (omega arith), number_more 2 b (at + 1) (at + 2) (omega arith) (omega arith), number_more 1 b (at + 2) (at + 3) (omega arith) (omega arith), number_one b (at + 3) (omega arith))
 
--- what std's `to_le_bytes` writes
-pub le_bytes_two : (x : ℕ) → to_le_bytes w16 x ≡ bytes_of 2 x
-unfolding bytes_of
-le_bytes_two x = refl
-
+-- what std's `to_le_bytes` writes of four bytes; of two it is the same by its definition
 pub le_bytes_four : (x : ℕ) → to_le_bytes w32 x ≡ bytes_of 4 x
 unfolding bytes_of
 le_bytes_four x =

@@ -1,11 +1,10 @@
 -- The laws of texts put into a buffer. Assumes nothing.
-use Prim.Native.Nat.{ℕ, ◌+◌, ◌-◌, ◌≤◌, ◌<◌}
+use Prim.Native.Nat.{ℕ, ◌+◌, ◌≤◌, ◌<◌}
 use mathlib.Core.Path.{◌≡◌, sym, ap, subst, ◌∙◌}
 use mathlib.Core.List.{List, [], ◌∷◌, ◌++◌, append_assoc, append-nil}
 use native.Mathlib.Omega.{arith}
 use native.Mathlib.Nat.{add_assoc, add-zero}
 use native.Mathlib.Numerals.{add-one}
-use borrow.Rule.Slice.PartMut.{put_mid}
 use lib.ListN.{length, take, drop, set, length-append, length-drop, take-append-drop}
 use lib.Seq.{set_split, take_at, drop_at, drop-drop, drop-length, length-take-le}
 use Rattle.layout.specs.Put.{put, Counts}
@@ -79,8 +78,3 @@ filled_to q {o} {at} {t} {p} {o₁} f e = subst (λ (x : ℕ). Filled o at t x o
 
 pub filled_long : (o : List ℕ) (at : ℕ) (t : List ℕ) (p : ℕ) (o₁ : List ℕ) → Filled o at t p o₁ → length o₁ ≡ length o
 filled_long o at t p o₁ f = ap length f.is ∙ length_put o at t (omega (arith, f.ends, f.room))
-
--- a part that is copied over
-pub put_part : (o t u : List ℕ) (at j : ℕ) → u ≡ t → j ≡ at + length t → put_mid at (j - at) o u ≡ put o at t
-unfolding put
-put_part o t u at j q e = let k : j - at ≡ length t = omega (arith, e) in rw (q, k, drop-drop (length t) at o)

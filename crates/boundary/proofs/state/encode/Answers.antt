@@ -6,15 +6,7 @@ use Rattle.boundary.proofs.state.encode.Goals as goal
 pub returns : goal.returns
 returns c =
     encode_done _ _ _ _ _ _ _ _ _ _ _
-    (record {
-      tickets = search rules;
-      order = search rules;
-      named = search rules;
-      asked = search rules;
-      released = search rules;
-      confirmed = search rules;
-      dependencies = search rules;
-    })
+    (search rules)
     c.requires
     c.put_all.ensures
     c.put.ensures
