@@ -12,7 +12,7 @@ ghost use Rattle.coordinator.specs.Call.{open_job, ask_step, confirm_step, close
 ghost use Rattle.record.specs.Record.{call_of};
 ghost use Rattle.boundary.specs.Outcome.{records_played, called, started, moves_at_most};
 
-use bytes::{put_two, widened};
+use bytes::Number;
 use coordinator::Coordinator;
 use numbers::Ticket;
 use records::play_all;
@@ -71,7 +71,7 @@ fn call(state: &mut [u8], kind: u8, database: u8, value: u16, answer: &mut [u8])
     let mut record = [0u8; 4];
     record[0] = kind;
     record[1] = database;
-    put_two(widened(value), &mut record, 2);
+    value.put(&mut record, 2);
     let left = play_all(decode(state), &record, answer);
     encode(left, state);
     0

@@ -3,7 +3,7 @@ ghost use Rattle.std.specs.Prelude.{◌≡◌, ◌*◌, ◌/◌, length};
 ghost use Rattle.boundary.specs.Row.{row_size};
 ghost use Rattle.boundary.specs.Records.{state_after, rows};
 
-use crate::bytes::get_two;
+use crate::bytes::Number;
 use crate::row::put_row;
 use coordinator::Coordinator;
 use numbers::NumberMaker;
@@ -25,7 +25,7 @@ pub(crate) fn play_all(s: Coordinator, records: &[u8], out: &mut [u8]) -> Coordi
     let mut dependencies = s.dependencies;
     let mut next = s.maker.next;
     for i in 0..records.len() / 4 {
-        let value = get_two(records, 4 * i + 2);
+        let value = u16::get(records, 4 * i + 2);
         let answer = record::play(
             tested,
             &mut tickets,

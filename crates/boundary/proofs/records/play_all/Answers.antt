@@ -37,9 +37,9 @@ loop-i-init c =
 pub loop-i-preserved : goal.loop-i-preserved
 loop-i-preserved c =
     let p = plays_tested _ _ _ _ _ c.loop-i.invariant.1.0 (c.play-answer.ensures c.loop-i.invariant.1.1.tickets.size) in (
-      going_on _ _ _ _ _ _ _ _ _ _ c.requires c.loop-i-test.true c.loop-i.invariant.0 c.get_two-value.ensures (omega arith)
+      going_on _ _ _ _ _ _ _ _ _ _ c.requires c.loop-i-test.true c.loop-i.invariant.0 c.get-value.ensures (omega arith)
           (plays_answers _ _ _ _ _ _ _ p c.put_row.ensures),
-      known_next _ _ _ _ _ _ c.get_two-value.type_inv c.loop-i.invariant.1 p.state,
+      known_next _ _ _ _ _ _ c.get-value.type_inv c.loop-i.invariant.1 p.state,
     )
 
 pub returns : goal.returns
