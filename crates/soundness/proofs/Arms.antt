@@ -1,9 +1,11 @@
 -- Which arm each call takes: what it answers and leaves, by its refusal and its tests. Assumes nothing.
 use Prim.Native.Nat.{ℕ, suc}
 use mathlib.Core.Bool.{true, false}
-use Rattle.std.specs.Prelude.{None, Some}
+use Rattle.std.specs.Prelude.{Option, None, Some, Ok, Err}
 use mathlib.Core.Path.{◌≡◌}
 use lib.Dec.{eqb}
+use Rattle.numbers.specs.declared.Ticket.{Ticket}
+use Rattle.refusals.specs.declared.refusal.Refusal.{Refusal}
 use Rattle.coordinator.specs.declared.Coordinator.{Coordinator}
 use Rattle.coordinator.specs.Holder.{holder}
 use Rattle.coordinator.specs.Refusal.{open_refusal, ask_refusal, confirm_refusal, close_refusal}
@@ -12,20 +14,18 @@ use Rattle.coordinator.specs.Release.{may_go, release, may_go_at, may_close, may
 use Rattle.coordinator.specs.Open.{free_slot, accepted, after_open}
 use Rattle.coordinator.specs.Ask.{asked_for, after_ask}
 use Rattle.coordinator.specs.Confirm.{released_one, confirmed_at, after_confirm}
-use Rattle.coordinator.specs.Close.{Closing, no_tickets, close_one, close_held, closing, closed_at, after_close}
+use Rattle.coordinator.specs.Close.{Closing, close_one, close_held, closing, after_closing, closed_at, after_close}
 use Rattle.coordinator.specs.declared.answers.After.{After}
 use Rattle.coordinator.specs.declared.answers.Opened.{Opened}
 use Rattle.coordinator.specs.declared.answers.Asked.{Asked}
 use Rattle.coordinator.specs.declared.answers.Closed.{Closed}
-use Rattle.numbers.specs.declared.Ticket.{Ticket}
-use Rattle.std.specs.Prelude.{Ok, Err, Option}
 
 module _ (s : Coordinator) where
   -- open
 
-  pub open_refused : (mask n : ℕ) → open_refusal s mask ≡ Some n → ◌≡◌ {A = After Opened} (after_open s mask) (record { answer = Err n; state = s })
+  pub open_refused : (mask : ℕ) (r : Refusal) → open_refusal s mask ≡ Some r → ◌≡◌ {A = After Opened} (after_open s mask) (record { answer = Err r; state = s })
   unfolding after_open
-  open_refused mask n e = rw (after_open, e)
+  open_refused mask r e = rw (after_open, e)
 
   pub open_taken : (mask : ℕ) → open_refusal s mask ≡ None → after_open s mask ≡ accepted s (free_slot s) mask
   unfolding after_open
@@ -33,9 +33,9 @@ module _ (s : Coordinator) where
 
   -- ask
 
-  pub ask_refused : (t k n : ℕ) → ask_refusal s t k ≡ Some n → ◌≡◌ {A = After Asked} (after_ask s t k) (record { answer = Err n; state = s })
+  pub ask_refused : (t k : ℕ) (r : Refusal) → ask_refusal s t k ≡ Some r → ◌≡◌ {A = After Asked} (after_ask s t k) (record { answer = Err r; state = s })
   unfolding after_ask
-  ask_refused t k n e = rw (after_ask, e)
+  ask_refused t k r e = rw (after_ask, e)
 
   pub ask_taken : (t k : ℕ) → ask_refusal s t k ≡ None → after_ask s t k ≡ asked_for s (holder s t) k
   unfolding after_ask
@@ -52,9 +52,10 @@ module _ (s : Coordinator) where
 
   -- confirm
 
-  pub confirm_refused : (t k n : ℕ) → confirm_refusal s t k ≡ Some n → ◌≡◌ {A = After (Option Ticket)} (after_confirm s t k) (record { answer = Err n; state = s })
+  pub confirm_refused : (t k : ℕ) (r : Refusal) → confirm_refusal s t k ≡ Some r
+      → ◌≡◌ {A = After (Option Ticket)} (after_confirm s t k) (record { answer = Err r; state = s })
   unfolding after_confirm
-  confirm_refused t k n e = rw (after_confirm, e)
+  confirm_refused t k r e = rw (after_confirm, e)
 
   pub confirm_taken : (t k : ℕ) → confirm_refusal s t k ≡ None → after_confirm s t k ≡ confirmed_at s (holder s t) k
   unfolding after_confirm
@@ -72,17 +73,16 @@ module _ (s : Coordinator) where
 
   -- close
 
-  pub close_refused : (t n : ℕ) → close_refusal s t ≡ Some n
-      → ◌≡◌ {A = After (Option Closed)} (after_close s t) (record { answer = Err n; state = s })
+  pub close_refused : (t : ℕ) (r : Refusal) → close_refusal s t ≡ Some r → ◌≡◌ {A = After (Option Closed)} (after_close s t) (record { answer = Err r; state = s })
   unfolding after_close
-  close_refused t n e = rw (after_close, e)
+  close_refused t r e = rw (after_close, e)
 
   pub close_taken : (t : ℕ) → close_refusal s t ≡ None → after_close s t ≡ closed_at s (holder s t)
   unfolding after_close
   close_taken t e = rw (after_close, e)
 
   pub close_goes : (j : ℕ) → may_close s j ≡ true
-      → ◌≡◌ {A = After (Option Closed)} (closed_at s j) (record { answer = CloseAnswer.Closed (closing s j).count; tickets = (closing s j).tickets; state = (closing s j).state })
+      → ◌≡◌ {A = After (Option Closed)} (closed_at s j) (after_closing (closing s j))
   unfolding closed_at
   close_goes j e = rw (closed_at, e)
 

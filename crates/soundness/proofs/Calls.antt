@@ -6,6 +6,7 @@ use mathlib.Core.Path.{◌≡◌, refl, sym, subst, ◌∙◌}
 use borrow.Author.Tests.{eq-eqb, eqb-false, not-true}
 use lib.Dec.{eqb}
 use Rattle.loops.proofs.Tests.{both, and_left, and_right, untrue}
+use Rattle.refusals.specs.declared.refusal.Refusal.{Refusal}
 use Rattle.coordinator.specs.declared.Coordinator.{Coordinator}
 use Rattle.coordinator.specs.Limits.{jobs, databases}
 use Rattle.coordinator.specs.Shape.{Shape}
@@ -20,6 +21,7 @@ use Rattle.coordinator.specs.Ask.{asked_for, after_ask}
 use Rattle.coordinator.specs.Confirm.{released_one, confirmed_at, after_confirm}
 use Rattle.coordinator.specs.Close.{Closing, close_one, close_held, closing, closed_at, after_close}
 use Rattle.coordinator.specs.Call.{Call, open_job, ask_step, confirm_step, close_job, play}
+use Rattle.coordinator.specs.declared.answers.After.{After}
 use Rattle.effects.specs.View.{View, view}
 use Rattle.effects.specs.Effect.{asked_at}
 use Rattle.effects.proofs.Tests.{may_go_at_lem, may_go_at_small, may_close_now_lem, may_close_now_small, first_of_lem}
@@ -31,15 +33,12 @@ use Rattle.soundness.proofs.Marks.{asked_sound, confirmed_sound, held_sound}
 use Rattle.soundness.proofs.Release.{released_sound}
 use Rattle.soundness.proofs.Remove.{removed_sound}
 use Rattle.soundness.proofs.Open.{opened_sound}
-use Rattle.coordinator.specs.declared.answers.After.{After}
-use Rattle.coordinator.specs.declared.answers.Opened.{Opened}
-use Rattle.coordinator.specs.declared.answers.Asked.{Asked}
-use Rattle.coordinator.specs.declared.answers.Closed.{Closed}
-use Rattle.numbers.specs.declared.Ticket.{Ticket}
-use Rattle.refusals.specs.declared.refusal.Refusal.{Refusal}
 
 kept : {s : Coordinator} {v : View} → Changed s v → Kept s
 kept c = (c.shape, c.sound)
+
+left_kept : {A : Type 0} {x y : After A} → x ≡ y → Kept y.state → Kept x.state
+left_kept {A} e K = subst (λ (z : After A). Kept z.state) (sym e) K
 
 -- open
 
@@ -50,8 +49,8 @@ open_kept s (h, S) mask small = by (open_refusal s mask) refl
     by : (o : Option Refusal) → open_refusal s mask ≡ o → Kept (after_open s mask).state
     by None e =
         let a = open_accepted s h mask e in
-        subst (λ (r : After Opened). Kept r.state) (sym (open_taken s mask e)) (kept (opened_sound s h S mask small a.some a.room).1)
-    by (Some n) e = subst (λ (r : After Opened). Kept r.state) (sym (open_refused s mask n e)) (h, S)
+        left_kept (open_taken s mask e) (kept (opened_sound s h S mask small a.some a.room).1)
+    by (Some r) e = left_kept (open_refused s mask r e) (h, S)
 
 -- ask
 
@@ -66,8 +65,8 @@ asked_kept s (h, S) j k slot database n new = by (may_go (mark_asked s j k) j k)
     by true e =
         let asks : asked (mark_asked s j k) j k ≡ true = c.shows.asked j k ∙ rw (eq-eqb j j refl, eq-eqb k k refl) in
         let waits : released (mark_asked s j k) j k ≡ false = c.shows.released j k ∙ untrue (released s j k) (λ r. both (S.released_asked j k r) new) in
-        subst (λ (r : After Asked). Kept r.state) (sym (ask_goes s j k e)) (kept (released_sound (mark_asked s j k) c.shape c.sound j k slot database asks waits))
-    by false e = subst (λ (r : After Asked). Kept r.state) (sym (ask_waits s j k e)) (kept c)
+        left_kept (ask_goes s j k e) (kept (released_sound (mark_asked s j k) c.shape c.sound j k slot database asks waits))
+    by false e = left_kept (ask_waits s j k e) (kept c)
 
 pub ask_kept : (s : Coordinator) → Kept s → (t k : ℕ) → Kept (after_ask s t k).state
 ask_kept s K t k = by (ask_refusal s t k) refl
@@ -75,8 +74,8 @@ ask_kept s K t k = by (ask_refusal s t k) refl
     by : (o : Option Refusal) → ask_refusal s t k ≡ o → Kept (after_ask s t k).state
     by None e =
         let a = ask_accepted s t k e in
-        subst (λ (r : After Asked). Kept r.state) (sym (ask_taken s t k e)) (asked_kept s K (holder s t) k a.holder_of.slot a.database a.named a.unasked)
-    by (Some n) e = subst (λ (r : After Asked). Kept r.state) (sym (ask_refused s t k n e)) K
+        left_kept (ask_taken s t k e) (asked_kept s K (holder s t) k a.holder_of.slot a.database a.named a.unasked)
+    by (Some r) e = left_kept (ask_refused s t k r e) K
 
 -- confirm
 
@@ -96,8 +95,8 @@ confirmed_kept s (h, S) j k slot database r = by (eqb (may_go_at (mark_confirmed
     K = kept (confirmed_sound s h S j k slot database r)
 
     by : (b : Bool) → eqb (may_go_at (mark_confirmed s j k) k) 0 ≡ b → Kept (confirmed_at s j k).state
-    by true e = subst (λ (r : After (Option Ticket)). Kept r.state) (sym (confirm_none s j k e)) K
-    by false e = subst (λ (r : After (Option Ticket)). Kept r.state) (sym (confirm_one s j k e)) (one_kept (mark_confirmed s j k) K k database (eqb-false (may_go_at (mark_confirmed s j k) k) 0 e))
+    by true e = left_kept (confirm_none s j k e) K
+    by false e = left_kept (confirm_one s j k e) (one_kept (mark_confirmed s j k) K k database (eqb-false (may_go_at (mark_confirmed s j k) k) 0 e))
 
 pub confirm_kept : (s : Coordinator) → Kept s → (t k : ℕ) → Kept (after_confirm s t k).state
 confirm_kept s K t k = by (confirm_refusal s t k) refl
@@ -105,8 +104,8 @@ confirm_kept s K t k = by (confirm_refusal s t k) refl
     by : (o : Option Refusal) → confirm_refusal s t k ≡ o → Kept (after_confirm s t k).state
     by None e =
         let a = confirm_accepted s t k e in
-        subst (λ (r : After (Option Ticket)). Kept r.state) (sym (confirm_taken s t k e)) (confirmed_kept s K (holder s t) k a.holder_of.slot a.database a.is_released)
-    by (Some n) e = subst (λ (r : After (Option Ticket)). Kept r.state) (sym (confirm_refused s t k n e)) K
+        left_kept (confirm_taken s t k e) (confirmed_kept s K (holder s t) k a.holder_of.slot a.database a.is_released)
+    by (Some r) e = left_kept (confirm_refused s t k r e) K
 
 -- close
 
@@ -145,8 +144,8 @@ unfolding closing
 closed_kept s (h, S) j o all = by (may_close s j) refl
   where
     by : (b : Bool) → may_close s j ≡ b → Kept (closed_at s j).state
-    by true e = subst (λ (r : After (Option Closed)). Kept r.state) (sym (close_goes s j e)) (cascade_kept jobs _ (one_closed _ (h, S) j o))
-    by false e = subst (λ (r : After (Option Closed)). Kept r.state) (sym (close_waits s j e)) (kept (held_sound s h S j o all))
+    by true e = left_kept (close_goes s j e) (cascade_kept jobs _ (one_closed _ (h, S) j o))
+    by false e = left_kept (close_waits s j e) (kept (held_sound s h S j o all))
 
 pub close_kept : (s : Coordinator) → Kept s → (t : ℕ) → Kept (after_close s t).state
 close_kept s K t = by (close_refusal s t) refl
@@ -154,8 +153,8 @@ close_kept s K t = by (close_refusal s t) refl
     by : (o : Option Refusal) → close_refusal s t ≡ o → Kept (after_close s t).state
     by None e =
         let a = close_accepted s K.0 t e in
-        subst (λ (r : After (Option Closed)). Kept r.state) (sym (close_taken s t e)) (closed_kept s K (holder s t) a.holder_of.is_open a.all_confirmed)
-    by (Some n) e = subst (λ (r : After (Option Closed)). Kept r.state) (sym (close_refused s t n e)) K
+        left_kept (close_taken s t e) (closed_kept s K (holder s t) a.holder_of.is_open a.all_confirmed)
+    by (Some r) e = left_kept (close_refused s t r e) K
 
 -- every call
 
