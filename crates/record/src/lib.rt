@@ -2,6 +2,7 @@
 // A record of document 01, played as the call that it is.
 pub mod answer;
 pub mod request;
+pub mod tested;
 
 ghost use Rattle.record.specs.Request.{call, requested};
 ghost use Rattle.record.specs.Tested.{answer_tested, Plays};
