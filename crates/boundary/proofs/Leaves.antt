@@ -1,5 +1,6 @@
 -- A call that is refused leaves every byte of the state as it was. Assumes nothing.
 use Prim.Native.Nat.{ℕ}
+use Rattle.refusals.specs.declared.refusal.Refusal.{Refusal}
 use mathlib.Core.Bool.{Bool, true, false}
 use mathlib.Core.List.{List}
 use Rattle.std.specs.Prelude.{Option, None, Some}
@@ -26,7 +27,7 @@ module _ (state answers : List ℕ) (bytes : Sized state_size 8 state) where
       by true = ap encoded e ∙ bytes_back state bytes
       by false = refl
 
-  pub refused_leaves : (c : Call) (n : ℕ) → refusal_of (decoded state) c ≡ Some n → (called (Some c) state answers).state ≡ state
+  pub refused_leaves : (c : Call) (n : Refusal) → refusal_of (decoded state) c ≡ Some n → (called (Some c) state answers).state ≡ state
   unfolding answer
   refused_leaves c n e = same_bytes (Some c) (ap (λ (p : Played). p.state) (refused_play (decoded state) c n e))
 

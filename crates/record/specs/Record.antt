@@ -1,5 +1,5 @@
 -- A record of four bytes as a call. Assumes nothing: these are definitions.
-use Rattle.std.specs.Prelude.{ℕ, true, false, eqb}
+use Rattle.std.specs.Prelude.{ℕ, ◌+◌, ◌*◌, true, false, eqb}
 use Rattle.std.specs.Prelude.{Option, None, Some}
 use Rattle.coordinator.specs.Call.{Call, open_job, ask_step, confirm_step, close_job}
 
@@ -16,3 +16,7 @@ call_of kind database value =
         ]
       ]
     ]
+
+-- two bytes, low first
+abbrev pub two_bytes : ℕ → ℕ → ℕ
+two_bytes low high = low + 256 * high

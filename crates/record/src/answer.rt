@@ -1,14 +1,17 @@
 // What a record answers, in document 01's numbers.
-ghost use Rattle.std.specs.Prelude.{◌≡◌, [], replicate};
-ghost use Rattle.coordinator.specs.Limits.{jobs};
+ghost use Rattle.std.specs.Prelude.{◌≡◌};
 ghost use Rattle.coordinator.specs.Answer.{refused, open_values, ask_values, confirm_values, close_values};
+ghost use Rattle.record.specs.Row.{no_tickets, bare, tickets_of};
 ghost use Rattle.record.specs.Answer.{numbers_of};
 
+use crate::request::UnknownKind;
 use coordinator::Coordinator;
-use coordinator::answers::{AskAnswer, CloseAnswer, ConfirmAnswer, OpenAnswer};
+use coordinator::answers::{Asked, Closed, Opened};
+use numbers::Ticket;
+use refusals::Refusal;
 
 // The numbers of an answer, zeros where a call has nothing to say.
-#[derive(Clone, Copy)]
+#[derive(Clone, Copy, Default)]
 pub struct Numbers {
     pub refusal: u8,
     pub released: u8,
@@ -26,8 +29,8 @@ pub struct Answer {
 }
 
 // Of a call that closes nothing.
-pub(crate) fn without_tickets(numbers: Numbers) -> Answer
-    ensures { result ≡ record { numbers = numbers; tickets = replicate jobs 0 } }
+fn without_tickets(numbers: Numbers) -> Answer
+    ensures { result ≡ record { numbers = numbers; tickets = no_tickets } }
 {
     Answer {
         numbers,
@@ -35,86 +38,85 @@ pub(crate) fn without_tickets(numbers: Numbers) -> Answer
     }
 }
 
-pub(crate) fn refused(n: u8) -> Numbers
-    ensures { result ≡ numbers_of (refused n) }
+fn refused(n: u8) -> Answer
+    ensures { result ≡ bare (refused n) }
 {
-    Numbers {
+    without_tickets(Numbers {
         refusal: n,
-        released: 0,
-        closed: 0,
-        ticket: 0,
-        added: 0,
-        moves: 0,
+        ..Numbers::default()
+    })
+}
+
+impl From<UnknownKind> for Answer {
+    ghost from_gives = { λ _ row. row ≡ bare (refused 11) };
+
+    fn from(unknown: UnknownKind) -> Answer {
+        refused(u8::from(unknown))
     }
 }
 
-fn released(flag: u8, ticket: u16) -> Numbers
-    ensures { result ≡ record { refusal = 0; released = flag; closed = 0; ticket = ticket; added = 0; moves = 0 } }
-{
-    Numbers {
-        refusal: 0,
-        released: flag,
-        closed: 0,
-        ticket,
-        added: 0,
-        moves: 0,
+impl From<Result<Opened, Refusal>> for Answer {
+    ghost from_gives = { λ answer row. row ≡ bare (open_values answer) };
+
+    fn from(answer: Result<Opened, Refusal>) -> Answer {
+        match answer {
+            Ok(opened) => without_tickets(Numbers {
+                ticket: opened.ticket.0,
+                added: opened.added,
+                moves: opened.moves,
+                ..Numbers::default()
+            }),
+            Err(refusal) => refused(u8::from(refusal)),
+        }
     }
 }
 
-pub(crate) fn of_open(answer: OpenAnswer) -> Numbers
-    ensures { result ≡ numbers_of (open_values answer) }
-{
-    match answer {
-        OpenAnswer::Refused(n) => refused(n),
-        OpenAnswer::Opened {
-            ticket,
-            added,
-            moves,
-        } => Numbers {
-            refusal: 0,
-            released: 0,
-            closed: 0,
-            ticket: ticket.0,
-            added,
-            moves,
-        },
+impl From<Result<Asked, Refusal>> for Answer {
+    ghost from_gives = { λ answer row. row ≡ bare (ask_values answer) };
+
+    fn from(answer: Result<Asked, Refusal>) -> Answer {
+        match answer {
+            Ok(Asked::Released) => without_tickets(Numbers {
+                released: 1,
+                ..Numbers::default()
+            }),
+            Ok(Asked::Held) => without_tickets(Numbers::default()),
+            Err(refusal) => refused(u8::from(refusal)),
+        }
     }
 }
 
-pub(crate) fn of_ask(answer: AskAnswer) -> Numbers
-    ensures { result ≡ numbers_of (ask_values answer) }
-{
-    match answer {
-        AskAnswer::Refused(n) => refused(n),
-        AskAnswer::Released => released(1, 0),
-        AskAnswer::Held => released(0, 0),
+impl From<Result<Option<Ticket>, Refusal>> for Answer {
+    ghost from_gives = { λ answer row. row ≡ bare (confirm_values answer) };
+
+    fn from(answer: Result<Option<Ticket>, Refusal>) -> Answer {
+        match answer {
+            Ok(Some(ticket)) => without_tickets(Numbers {
+                released: 1,
+                ticket: ticket.0,
+                ..Numbers::default()
+            }),
+            Ok(None) => without_tickets(Numbers::default()),
+            Err(refusal) => refused(u8::from(refusal)),
+        }
     }
 }
 
-pub(crate) fn of_confirm(answer: ConfirmAnswer) -> Numbers
-    ensures { result ≡ numbers_of (confirm_values answer) }
-{
-    match answer {
-        ConfirmAnswer::Refused(n) => refused(n),
-        ConfirmAnswer::Released(t) => released(1, t.0),
-        ConfirmAnswer::Nothing => released(0, 0),
-    }
-}
+impl From<Result<Option<Closed>, Refusal>> for Answer {
+    ghost from_gives = { λ answer row. row ≡ record { numbers = numbers_of (close_values answer); tickets = tickets_of answer } };
 
-// The tickets closed stand beside the answer, and no number depends on them.
-pub(crate) fn of_close(answer: CloseAnswer) -> Numbers
-    ensures { result ≡ numbers_of (close_values answer []) }
-{
-    match answer {
-        CloseAnswer::Refused(n) => refused(n),
-        CloseAnswer::Held => released(0, 0),
-        CloseAnswer::Closed(n) => Numbers {
-            refusal: 0,
-            released: 0,
-            closed: n,
-            ticket: 0,
-            added: 0,
-            moves: 0,
-        },
+    fn from(answer: Result<Option<Closed>, Refusal>) -> Answer {
+        match answer {
+            Ok(Some(closed)) => {
+                let numbers = Numbers {
+                    closed: closed.count,
+                    ..Numbers::default()
+                };
+                let tickets = closed.tickets;
+                Answer { numbers, tickets }
+            }
+            Ok(None) => without_tickets(Numbers::default()),
+            Err(refusal) => refused(u8::from(refusal)),
+        }
     }
 }

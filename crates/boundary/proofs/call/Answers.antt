@@ -1,4 +1,5 @@
-use Rattle.boundary.proofs.Alone.{alone_long, alone_is}
+use Rattle.std.proofs.Common.{◌∙◌}
+use Rattle.boundary.proofs.Answering.{plays_answers}
 use Rattle.boundary.proofs.Cases.{call_wrong_state, call_wrong_answer, call_right}
 use Rattle.boundary.proofs.call.Goals as goal
 
@@ -10,7 +11,6 @@ returns-then-answer-ne-ROW_SIZE c = call_wrong_answer _ _ _ c.if-state-ne-STATE_
 
 pub returns : goal.returns
 returns c =
-    call_right _ _ _ c.if-state-ne-STATE_SIZE.false c.if-answer-ne-ROW_SIZE.false _ (alone_long _ _ _ _ c.put.ensures) (alone_is _ _ _ _ c.put.ensures c.ranges.value.fits) _ _ _ _
-    c.decode.ensures
-    c.play_all-left.ensures
+    call_right _ _ _ c.if-state-ne-STATE_SIZE.false c.if-answer-ne-ROW_SIZE.false _ _ _ _ (c.new-tested.ensures ∙ c.decode.ensures)
+    (plays_answers _ _ _ _ _ _ _ c.play-row.ensures c.put_row.ensures)
     c.encode.ensures
