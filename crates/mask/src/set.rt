@@ -106,7 +106,7 @@ impl Set for u16 {
     }
 
     fn lowest(self) -> u32 {
-        self.trailing_zeros()
+        u16::trailing_zeros(self)
     }
 
     ghost narrow = { Prim.search rules };
@@ -128,7 +128,7 @@ impl Set for u32 {
     }
 
     fn lowest(self) -> u32 {
-        self.trailing_zeros()
+        u32::trailing_zeros(self)
     }
 
     ghost narrow = { Prim.search rules };
