@@ -1,15 +1,13 @@
--- The operations as the code has them: at w digits `1 << k` is 1 * 2 ^ k % 2 ^ w, `!x` is 2 ^ w - 1 - x, and m - 1 of 0 may be anything. Assumes nothing.
-use Rattle.std.proofs.Common.{◌≡◌, ℕ, zero, suc, ◌+◌, ◌-◌, ◌*◌, ◌/◌, ◌%◌, ◌^◌, ◌<◌, Bool, true, false, ◌⊎◌, sym, refl, ap, ◌∙◌, inl, inr, mod-eq_of_lt, zero-lt-suc, eq-zero-or-pos, eq-or-lt_of_le, one-mul, pow-suc, zero-mul, add-one, arith, pow_pos}
-use native.Mathlib.Nat.{mod_self}
+-- The operations as the code has them: at w digits `1 << k` is 1 * 2 ^ k % 2 ^ w and `!x` is 2 ^ w - 1 - x. Assumes nothing.
+use Rattle.std.proofs.Common.{◌≡◌, ℕ, zero, suc, ◌-◌, ◌*◌, ◌/◌, ◌%◌, ◌^◌, ◌<◌, Bool, true, false, sym, refl, ap, ◌∙◌, mod-eq_of_lt, zero-lt-suc, one-mul, pow-suc, zero-mul, arith, pow_pos}
 use lib.Pow.{pow-lt}
-use lib.Bits.{bit_and, bit_or, and_step, and_self, and_zero_l, and_comm}
-use Rattle.mask.specs.Member.{digit, holds, including, excluding, joined, lowest}
+use lib.Bits.{bit_and, bit_or, and_step, and_self, and_comm}
+use Rattle.mask.specs.Member.{digit, holds, including, excluding}
 use Rattle.mask.specs.Lowest.{Lowest}
 use Rattle.std.proofs.lemmas.Nat.{and-not}
 use Rattle.std.proofs.lemmas.Nat.Bits.{and_pow, bit_at-suc, bit_at_lowest}
-use Rattle.mask.proofs.Change.{or_pow, sub_pow, joined_below}
+use Rattle.mask.proofs.Change.{or_pow, sub_pow}
 use Rattle.mask.proofs.Holds.{digit_on, digit_off}
-use Rattle.mask.proofs.Lowest.{trailing_lowest}
 
 -- a & !b, at n digits
 pub and_not : (n a b : ℕ) → a < 2 ^ n → b < 2 ^ n → bit_and a (2 ^ n - 1 - b) ≡ a - bit_and a b
@@ -20,9 +18,6 @@ one_shl w k l = ap (λ (x : ℕ). x % 2 ^ w) (one-mul (2 ^ k)) ∙ mod-eq_of_lt 
 
 pub or_shl : (w m k : ℕ) → k < w → bit_or m (1 * 2 ^ k % 2 ^ w) ≡ including m k
 or_shl w m k l = rw (one_shl w k l) (or_pow m k)
-
-pub joined_shl : (w m k : ℕ) → k < w → bit_or m (1 * 2 ^ k % 2 ^ w) ≡ joined w m k
-joined_shl w m k l = or_shl w m k l ∙ sym (joined_below w m k l)
 
 -- the test `m & 1 << k != 0`
 and_shl : (w m k : ℕ) → k < w → bit_and m (1 * 2 ^ k % 2 ^ w) ≡ digit m k * 2 ^ k
@@ -66,20 +61,3 @@ rest_of (suc w) m p on below =
 
 pub rest_is : (n m w : ℕ) → 0 < m → Lowest n m w → bit_and (m - 1) m ≡ excluding m w
 rest_is n m w p l = rest_of w m p l.on l.below ∙ sym (clear_is m w l.on)
-
--- x is m - 1 where it does not wrap around
-before_of : (p m x : ℕ) → 0 < m → x < p → (x + 1) % p ≡ m → x ≡ m - 1
-before_of p m x h g e = by (eq-or-lt_of_le g)
-  where
-    by : (suc x ≡ p) ⊎ (suc x < p) → x ≡ m - 1
-    by (inl q) = let z : (x + 1) % p ≡ 0 = ap (λ (y : ℕ). y % p) (add-one x ∙ q) ∙ mod_self p in absurd (omega arith)
-    by (inr q) = let z : (x + 1) % p ≡ x + 1 = mod-eq_of_lt (omega arith) in omega arith
-
--- of an empty set x may be anything: it stays empty
-pub rest_wraps : (n m x : ℕ) → m < 2 ^ n → x < 2 ^ n → (x + 1) % 2 ^ n ≡ m → bit_and m x ≡ excluding m (lowest n m)
-unfolding excluding
-rest_wraps n m x h g e = by (eq-zero-or-pos m)
-  where
-    by : (m ≡ 0) ⊎ (0 < m) → bit_and m x ≡ excluding m (lowest n m)
-    by (inl z) = rw (z, and_zero_l x) (omega arith)
-    by (inr p) = and_comm m x ∙ ap (λ (y : ℕ). bit_and y m) (before_of (2 ^ n) m x p g e) ∙ rest_is n m (lowest n m) p (trailing_lowest n m p h)
