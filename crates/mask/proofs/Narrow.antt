@@ -3,7 +3,8 @@ use Rattle.std.proofs.Common.{◌≡◌, ℕ, ◌-◌, ◌*◌, ◌%◌, ◌^◌
 use lib.Pow.{pow-lt}
 use lib.Bits.{bit_and, bit_or, or_lt, and_le_l, and_zero_l, and_comm}
 use Rattle.mask.specs.Member.{excluding, joined, less, lowest}
-use Rattle.mask.proofs.Words.{and_not, one_shl, joined_shl, and_not_shl, rest_is}
+use Rattle.mask.proofs.Words.{and_not, one_shl, and_not_shl, rest_is}
+use Rattle.mask.proofs.Change.{or_pow, joined_below}
 use Rattle.mask.proofs.Lowest.{trailing_lowest}
 
 -- what lies within a set of n digits is read back as it is
@@ -15,8 +16,7 @@ wide n w m l h = lt_of_lt_of_le h (pow_mono l)
 
 pub narrow_joined : (n w m k : ℕ) → n ≤ w → m < 2 ^ n → k < n → bit_or m (1 * 2 ^ k % 2 ^ w) % 2 ^ n ≡ joined n m k
 narrow_joined n w m k l h b =
-    let s : 1 * 2 ^ k % 2 ^ w ≡ 2 ^ k = one_shl w k (omega (arith, l, b)) in
-    rw s (mod-eq_of_lt (or_lt n m (2 ^ k) h (pow-lt b))) ∙ ap (bit_or m) (sym (one_shl n k b)) ∙ joined_shl n m k b
+    rw (one_shl w k (omega (arith, l, b))) (mod-eq_of_lt (or_lt n m (2 ^ k) h (pow-lt b))) ∙ or_pow m k ∙ sym (joined_below n m k b)
 
 pub narrow_excluding : (n w m k : ℕ) → n ≤ w → m < 2 ^ n → k < n → bit_and m (2 ^ w - 1 - 1 * 2 ^ k % 2 ^ w) % 2 ^ n ≡ excluding m k
 narrow_excluding n w m k l h b = narrow_and n m _ h ∙ and_not_shl w m k (wide n w m l h) (omega (arith, l, b))
