@@ -100,19 +100,20 @@ impl Walker<'_> {
             let w = Slot(m.lowest() as u8);
             m = m.rest();
             let at = k * Slot::COUNT + w.0 as usize;
-            if (self.dependencies[at] >> v.0) % 2 != 1 {
-                if w.0 == self.job.0 {
-                    if (self.found[k] >> v.0) % 2 != 1 {
-                        self.found[k] |= 1 << v.0;
-                        self.moves += 1;
-                    }
-                } else {
-                    self.reached[k] |= 1 << w.0;
+            if self.dependencies[at].holds(v.0) {
+                continue;
+            }
+            if w.0 == self.job.0 {
+                if !self.found[k].holds(v.0) {
+                    self.found[k] |= 1 << v.0;
                     self.moves += 1;
-                    self.visit_job(w, Some(u));
-                    self.moves += 1;
-                    m = others(m, self.reached[k], v);
                 }
+            } else {
+                self.reached[k] |= 1 << w.0;
+                self.moves += 1;
+                self.visit_job(w, Some(u));
+                self.moves += 1;
+                m = others(m, self.reached[k], v);
             }
         }
     }
