@@ -89,6 +89,7 @@ impl Walker<'_> {
 
     // From database u, come to from slot v which names it, to the other slots that name it. A visit reaches more of them: these are taken off what is left.
     #[cycle(visit_database_visit_job)]
+    #[tactic(auto, using(crate::proofs::Onward::room, crate::proofs::Trying::lowest_out))]
     fn visit_database(&mut self, v: Slot, u: Database)
         requires { BeforeDatabase self.old v.0 u.0 }
         ensures { DatabaseVisited self.old v.0 u.0 self.new }
@@ -130,6 +131,7 @@ fn put_ahead(ahead: &mut [u16; Slot::COUNT], slots: u32, u: usize)
 }
 
 // The databases of `all` but `via`: a walk doesn't turn round.
+#[tactic(auto, using(mask::proofs::Change::excluding_beyond))]
 fn without(all: u16, via: Option<Database>) -> u16
     ensures { result ≡ excluding all (turned via) }
 {
@@ -140,6 +142,7 @@ fn without(all: u16, via: Option<Database>) -> u16
 }
 
 // The slots of `all` but v that are not reached: those that are would be passed over one by one.
+#[tactic(auto, using(crate::proofs::Trying::others_are))]
 fn others(all: u32, reached: u32, v: Slot) -> u32
     requires { v.0 < jobs }
     ensures { Others all reached v.0 result }

@@ -1,5 +1,5 @@
 use Rattle.std.proofs.Common.{refl, sym, ◌∙◌, arith}
-use Rattle.search.proofs.Onward.{room, unmarked_le}
+use Rattle.search.proofs.Onward.{unmarked_le}
 use Rattle.search.proofs.Slots.{slots_start, turn_held, turn_found, turn_closes, forward_fewer, forward_asked, turn_forward, rest_less, others_less, slots_rest, slots_turn, slots_done}
 use Rattle.search.proofs.Databases.{databases_start, taking_ready, taken_standing, databases_done, database_asked, database_taken, databases_turn}
 use Rattle.search.proofs.Walker.+visit_database_visit_job.Goals as goal
@@ -10,51 +10,30 @@ pub visit_database-loop-m-init : goal.visit_database-loop-m-init
 visit_database-loop-m-init t c = slots_start c.requires.ready c.others-m.ensures
 
 -- v goes before w
-pub visit_database-loop-m-smaller-then-holds : goal.visit_database-loop-m-smaller-then-holds
-visit_database-loop-m-smaller-then-holds t c = rest_less c.loop-m.invariant c.loop-m-test.true c.lowest.ensures c.rest-m.ensures
-
 pub visit_database-loop-m-preserved-then-holds : goal.visit_database-loop-m-preserved-then-holds
 visit_database-loop-m-preserved-then-holds t c =
     slots_rest c.loop-m.invariant c.loop-m-test.true c.lowest.ensures c.rest-m.ensures refl
     (turn_held c.loop-m.invariant c.loop-m-test.true c.lowest.ensures c.requires.standing (sym c.holds.ensures ∙ c.if-holds.true))
 
 -- the new job, and the dependency is found now
-pub visit_database-overflow_add-self : goal.visit_database-overflow_add-self
-visit_database-overflow_add-self t c = record { fits = room c.loop-m.invariant.onward.ready }
-
-pub visit_database-loop-m-smaller-then-not-holds : goal.visit_database-loop-m-smaller-then-not-holds
-visit_database-loop-m-smaller-then-not-holds t c = rest_less c.loop-m.invariant c.loop-m-test.true c.lowest.ensures c.rest-m.ensures
-
 pub visit_database-loop-m-preserved-then-not-holds : goal.visit_database-loop-m-preserved-then-not-holds
 visit_database-loop-m-preserved-then-not-holds t c =
     slots_rest c.loop-m.invariant c.loop-m-test.true c.lowest.ensures c.rest-m.ensures refl
     (turn_closes c.loop-m.invariant c.loop-m-test.true c.lowest.ensures c.requires.standing (sym c.holds.ensures ∙ c.if-holds.false) c.if-w-self.true (sym c.holds-then-w-self.ensures ∙ c.if-not-holds.true))
 
 -- the new job, and the dependency is found already
-pub visit_database-loop-m-smaller-else-not-holds : goal.visit_database-loop-m-smaller-else-not-holds
-visit_database-loop-m-smaller-else-not-holds t c = rest_less c.loop-m.invariant c.loop-m-test.true c.lowest.ensures c.rest-m.ensures
-
 pub visit_database-loop-m-preserved-else-not-holds : goal.visit_database-loop-m-preserved-else-not-holds
 visit_database-loop-m-preserved-else-not-holds t c =
     slots_rest c.loop-m.invariant c.loop-m-test.true c.lowest.ensures c.rest-m.ensures refl
     (turn_found c.loop-m.invariant c.loop-m-test.true c.lowest.ensures c.requires.standing (sym c.holds.ensures ∙ c.if-holds.false) c.if-w-self.true (sym c.holds-then-w-self.ensures ∙ c.if-not-holds.false))
 
 -- another job: it is visited
-pub visit_database-overflow_add-self-else-w-self : goal.visit_database-overflow_add-self-else-w-self
-visit_database-overflow_add-self-else-w-self t c = record { fits = room c.loop-m.invariant.onward.ready }
-
 pub visit_database-visit_job-requires : goal.visit_database-visit_job-requires
 visit_database-visit_job-requires t c =
     let free = sym c.holds.ensures ∙ c.if-holds.false in (
       omega (arith, forward_fewer c.loop-m.invariant c.loop-m-test.true c.lowest.ensures c.requires.standing free c.if-w-self.false, c.decreases),
       forward_asked c.loop-m.invariant c.loop-m-test.true c.lowest.ensures c.requires.standing free c.if-w-self.false,
     )
-
-pub visit_database-overflow_add-self-else-w-self-2 : goal.visit_database-overflow_add-self-else-w-self-2
-visit_database-overflow_add-self-else-w-self-2 t c = record { fits = room c.visit_job.ensures.onward.ready }
-
-pub visit_database-loop-m-smaller : goal.visit_database-loop-m-smaller
-visit_database-loop-m-smaller t c = others_less c.loop-m.invariant c.loop-m-test.true c.lowest.ensures c.rest-m.ensures c.others-m-else-w-self.ensures
 
 pub visit_database-loop-m-preserved : goal.visit_database-loop-m-preserved
 visit_database-loop-m-preserved t c =
