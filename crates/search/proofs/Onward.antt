@@ -1,5 +1,5 @@
 -- What the search has goes on from part to part: what was marked stays, and what was through stays through. Assumes nothing.
-use Prim.Native.Nat.{ℕ, ◌+◌, ◌^◌, ◌<◌, ◌≤◌}
+use Prim.Native.Nat.{ℕ, ◌+◌, ◌≤◌}
 use native.Mathlib.Omega.{arith}
 use mathlib.Core.Bool.{true, false}
 use mathlib.Core.Logic.{◌⊎◌, inl, inr}

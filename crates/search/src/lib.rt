@@ -63,6 +63,7 @@ struct Walker<'a> {
 
 impl Walker<'_> {
     // Each database is ahead of the slots that name it.
+    #[tactic(auto, unfolding(crate::specs::Visit::all_ahead, loops::specs::Loop::over))]
     fn put_all_ahead(&mut self)
         ensures { self.new ≡ record self.old { ahead = all_ahead self.old.named.now self.old.ahead } }
     {
@@ -121,6 +122,7 @@ impl Walker<'_> {
 }
 
 // Database u is ahead of each of the slots.
+#[tactic(auto, using(mask::proofs::Walking::left_done), unfolding(crate::specs::Visit::put_ahead))]
 fn put_ahead(ahead: &mut [u16; Slot::COUNT], slots: u32, u: usize)
     requires { u < databases }
     ensures { ahead.new ≡ put_ahead slots u ahead.old }

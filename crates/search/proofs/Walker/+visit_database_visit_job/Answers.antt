@@ -1,6 +1,6 @@
 use Rattle.std.proofs.Common.{refl, sym, ◌∙◌, arith}
 use Rattle.search.proofs.Onward.{unmarked_le}
-use Rattle.search.proofs.Slots.{slots_start, turn_held, turn_found, turn_closes, forward_fewer, forward_asked, turn_forward, rest_less, others_less, slots_rest, slots_turn, slots_done}
+use Rattle.search.proofs.Slots.{slots_start, turn_held, turn_found, turn_closes, forward_fewer, forward_asked, turn_forward, slots_rest, slots_turn, slots_done}
 use Rattle.search.proofs.Databases.{databases_start, taking_ready, taken_standing, databases_done, database_asked, database_taken, databases_turn}
 use Rattle.search.proofs.Walker.+visit_database_visit_job.Goals as goal
 
