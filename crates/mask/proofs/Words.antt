@@ -1,24 +1,19 @@
 -- The operations as the code has them: at w digits `1 << k` is 1 * 2 ^ k % 2 ^ w, `!x` is 2 ^ w - 1 - x, and m - 1 of 0 may be anything. Assumes nothing.
 use Rattle.std.proofs.Common.{◌≡◌, ℕ, zero, suc, ◌+◌, ◌-◌, ◌*◌, ◌/◌, ◌%◌, ◌^◌, ◌<◌, Bool, true, false, ◌⊎◌, sym, refl, ap, ◌∙◌, inl, inr, mod-eq_of_lt, zero-lt-suc, eq-zero-or-pos, eq-or-lt_of_le, one-mul, pow-suc, zero-mul, add-one, arith, pow_pos}
 use native.Mathlib.Nat.{mod_self}
-use lib.Arith.{lt-one}
 use lib.Pow.{pow-lt}
-use lib.Bits.{bit_and, bit_or, and_step, and_self, and_le_l, and_zero_l, and_comm}
+use lib.Bits.{bit_and, bit_or, and_step, and_self, and_zero_l, and_comm}
 use Rattle.mask.specs.Member.{digit, holds, including, excluding, joined, lowest}
 use Rattle.mask.specs.Lowest.{Lowest}
-use Rattle.mask.proofs.Digits.{digit_first, digit_suc, and_pow}
+use Rattle.std.proofs.lemmas.Nat.{and-not}
+use Rattle.std.proofs.lemmas.Nat.Bits.{and_pow, bit_at-suc, bit_at_lowest}
 use Rattle.mask.proofs.Change.{or_pow, sub_pow, joined_below}
 use Rattle.mask.proofs.Holds.{digit_on, digit_off}
 use Rattle.mask.proofs.Lowest.{trailing_lowest}
 
 -- a & !b, at n digits
 pub and_not : (n a b : ℕ) → a < 2 ^ n → b < 2 ^ n → bit_and a (2 ^ n - 1 - b) ≡ a - bit_and a b
-and_not zero a b ha hb = rw (lt-one ha) refl
-and_not (suc n) a b ha hb =
-    let p : 2 ^ suc n ≡ 2 ^ n * 2 = pow-suc 2 n in
-    let x : ℕ = 2 ^ suc n - 1 - b in
-    let half : bit_and (a / 2) (x / 2) ≡ bit_and (a / 2) (2 ^ n - 1 - b / 2) = ap (bit_and (a / 2)) (omega (arith, pow_pos n)) in
-    omega (arith, half, and_not n (a / 2) (b / 2) (omega arith) (omega arith), and_step a x, and_step a b, and_le_l (a / 2) (b / 2))
+and_not n a b ha hb = omega (arith, and-not n b a hb ha, and_comm a b, and_comm a (2 ^ n - 1 - b))
 
 pub one_shl : (w k : ℕ) → k < w → 1 * 2 ^ k % 2 ^ w ≡ 2 ^ k
 one_shl w k l = ap (λ (x : ℕ). x % 2 ^ w) (one-mul (2 ^ k)) ∙ mod-eq_of_lt (pow-lt l)
@@ -58,16 +53,16 @@ clear_is m w e = rw e (omega arith)
 
 rest_of : (w m : ℕ) → 0 < m → digit m w ≡ 1 → ((j : ℕ) → j < w → digit m j ≡ 0) → bit_and (m - 1) m ≡ m - 2 ^ w
 rest_of zero m p on below =
-    let d : m % 2 ≡ 1 = sym (digit_first m) ∙ on in
+    let d : m % 2 ≡ 1 = sym (bit_at_lowest m) ∙ on in
     let e : (m - 1) / 2 ≡ m / 2 = omega arith in
     let h : bit_and ((m - 1) / 2) (m / 2) ≡ m / 2 = ap (λ (x : ℕ). bit_and x (m / 2)) e ∙ and_self (m / 2) in
     omega (arith, and_step (m - 1) m)
 rest_of (suc w) m p on below =
-    let d : m % 2 ≡ 0 = sym (digit_first m) ∙ below 0 (zero-lt-suc w) in
+    let d : m % 2 ≡ 0 = sym (bit_at_lowest m) ∙ below 0 (zero-lt-suc w) in
     let q : 2 ^ suc w ≡ 2 ^ w * 2 = pow-suc 2 w in
     let e : (m - 1) / 2 ≡ m / 2 - 1 = omega arith in
     let h : bit_and ((m - 1) / 2) (m / 2) ≡ bit_and (m / 2 - 1) (m / 2) = ap (λ (x : ℕ). bit_and x (m / 2)) e in
-    omega (arith, and_step (m - 1) m, rest_of w (m / 2) (omega arith) (sym (digit_suc m w) ∙ on) (λ j l. sym (digit_suc m j) ∙ below (suc j) (omega arith)))
+    omega (arith, and_step (m - 1) m, rest_of w (m / 2) (omega arith) (sym (bit_at-suc m w) ∙ on) (λ j l. sym (bit_at-suc m j) ∙ below (suc j) (omega arith)))
 
 pub rest_is : (n m w : ℕ) → 0 < m → Lowest n m w → bit_and (m - 1) m ≡ excluding m w
 rest_is n m w p l = rest_of w m p l.on l.below ∙ sym (clear_is m w l.on)
