@@ -11,9 +11,6 @@ use numbers::{Database, Slot};
 
 const STEPS: usize = Slot::COUNT * Database::COUNT;
 
-// The limit as a slot's number has it.
-const SLOTS: u8 = Slot::COUNT as u8;
-
 #[derive(Clone, Copy)]
 pub struct Sought {
     pub found: [u32; Database::COUNT],
@@ -33,7 +30,7 @@ pub fn search(named: &[u32; Database::COUNT], dependencies: &[u32; STEPS], n: Sl
         found: [0; Database::COUNT],
         moves: 0,
     };
-    if n.0 < SLOTS {
+    if (n.0 as usize) < Slot::COUNT {
         walker.put_all_ahead();
         walker.visit_job(n, None);
     }
@@ -96,16 +93,16 @@ impl Walker<'_> {
         ensures { DatabaseVisited self.old v.0 u.0 self.new }
     {
         let k = u.0 as usize;
-        let mut m = others(self.named[k], self.reached[k], v);
+        let mut left = others(self.named[k], self.reached[k], v);
         // The set changes while it is walked, so this is no `for` over its members.
-        while m != 0 {
-            let w = Slot(m.lowest() as u8);
-            m = m.rest();
+        while left != 0 {
+            let w = Slot(left.lowest() as u8);
+            left = left.rest();
             let at = k * Slot::COUNT + w.0 as usize;
             if self.dependencies[at].holds(v.0) {
                 continue;
             }
-            if w.0 == self.job.0 {
+            if w == self.job {
                 if !self.found[k].holds(v.0) {
                     self.found[k] |= 1 << v.0;
                     self.moves += 1;
@@ -115,7 +112,7 @@ impl Walker<'_> {
                 self.moves += 1;
                 self.visit_job(w, Some(u));
                 self.moves += 1;
-                m = others(m, self.reached[k], v);
+                left = others(left, self.reached[k], v);
             }
         }
     }
@@ -137,10 +134,7 @@ fn put_ahead(ahead: &mut [u16; Slot::COUNT], slots: u32, u: usize)
 fn without(all: u16, via: Option<Database>) -> u16
     ensures { result ≡ excluding all (turned via) }
 {
-    match via {
-        Some(u) => all.without_member(u.0),
-        None => all,
-    }
+    via.map_or(all, |u| all.without_member(u.0))
 }
 
 // The slots of `all` but v that are not reached: those that are would be passed over one by one.

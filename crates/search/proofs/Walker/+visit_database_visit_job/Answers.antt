@@ -1,4 +1,4 @@
-use Rattle.std.proofs.Common.{refl, sym, ◌∙◌, arith}
+use Rattle.std.proofs.Common.{refl, sym, ◌∙◌, arith, rules}
 use Rattle.search.proofs.Onward.{unmarked_le}
 use Rattle.search.proofs.Slots.{slots_start, turn_held, turn_found, turn_closes, forward_fewer, forward_asked, turn_forward, slots_rest, slots_turn, slots_done}
 use Rattle.search.proofs.Databases.{databases_start, taking_ready, taken_standing, databases_done, database_asked, database_taken, databases_turn}
@@ -6,42 +6,42 @@ use Rattle.search.proofs.Walker.+visit_database_visit_job.Goals as goal
 
 -- visit_database: in each turn of its loop at w, the lowest of the slots to try
 
-pub visit_database-loop-m-init : goal.visit_database-loop-m-init
-visit_database-loop-m-init t c = slots_start c.requires.ready c.others-m.ensures
+pub visit_database-loop-left-init : goal.visit_database-loop-left-init
+visit_database-loop-left-init t c = slots_start c.requires.ready c.others-left.ensures
 
 -- v goes before w
-pub visit_database-loop-m-preserved-then-holds : goal.visit_database-loop-m-preserved-then-holds
-visit_database-loop-m-preserved-then-holds t c =
-    slots_rest c.loop-m.invariant c.loop-m-test.true c.lowest.ensures c.rest-m.ensures refl
-    (turn_held c.loop-m.invariant c.loop-m-test.true c.lowest.ensures c.requires.standing (sym c.holds.ensures ∙ c.if-holds.true))
+pub visit_database-loop-left-preserved-then-holds : goal.visit_database-loop-left-preserved-then-holds
+visit_database-loop-left-preserved-then-holds t c =
+    slots_rest c.loop-left.invariant c.loop-left-test.true c.lowest.ensures c.rest-left.ensures refl
+    (turn_held c.loop-left.invariant c.loop-left-test.true c.lowest.ensures c.requires.standing (sym c.holds.ensures ∙ c.if-holds.true))
 
 -- the new job, and the dependency is found now
-pub visit_database-loop-m-preserved-then-not-holds : goal.visit_database-loop-m-preserved-then-not-holds
-visit_database-loop-m-preserved-then-not-holds t c =
-    slots_rest c.loop-m.invariant c.loop-m-test.true c.lowest.ensures c.rest-m.ensures refl
-    (turn_closes c.loop-m.invariant c.loop-m-test.true c.lowest.ensures c.requires.standing (sym c.holds.ensures ∙ c.if-holds.false) c.if-w-self.true (sym c.holds-then-w-self.ensures ∙ c.if-not-holds.true))
+pub visit_database-loop-left-preserved-then-not-holds : goal.visit_database-loop-left-preserved-then-not-holds
+visit_database-loop-left-preserved-then-not-holds t c =
+    slots_rest c.loop-left.invariant c.loop-left-test.true c.lowest.ensures c.rest-left.ensures refl
+    (turn_closes c.loop-left.invariant c.loop-left-test.true c.lowest.ensures c.requires.standing (sym c.holds.ensures ∙ c.if-holds.false) (search rules) (sym c.holds-then-eq.ensures ∙ c.if-not-holds.true))
 
 -- the new job, and the dependency is found already
-pub visit_database-loop-m-preserved-else-not-holds : goal.visit_database-loop-m-preserved-else-not-holds
-visit_database-loop-m-preserved-else-not-holds t c =
-    slots_rest c.loop-m.invariant c.loop-m-test.true c.lowest.ensures c.rest-m.ensures refl
-    (turn_found c.loop-m.invariant c.loop-m-test.true c.lowest.ensures c.requires.standing (sym c.holds.ensures ∙ c.if-holds.false) c.if-w-self.true (sym c.holds-then-w-self.ensures ∙ c.if-not-holds.false))
+pub visit_database-loop-left-preserved-else-not-holds : goal.visit_database-loop-left-preserved-else-not-holds
+visit_database-loop-left-preserved-else-not-holds t c =
+    slots_rest c.loop-left.invariant c.loop-left-test.true c.lowest.ensures c.rest-left.ensures refl
+    (turn_found c.loop-left.invariant c.loop-left-test.true c.lowest.ensures c.requires.standing (sym c.holds.ensures ∙ c.if-holds.false) (search rules) (sym c.holds-then-eq.ensures ∙ c.if-not-holds.false))
 
 -- another job: it is visited
 pub visit_database-visit_job-requires : goal.visit_database-visit_job-requires
 visit_database-visit_job-requires t c =
     let free = sym c.holds.ensures ∙ c.if-holds.false in (
-      omega (arith, forward_fewer c.loop-m.invariant c.loop-m-test.true c.lowest.ensures c.requires.standing free c.if-w-self.false, c.decreases),
-      forward_asked c.loop-m.invariant c.loop-m-test.true c.lowest.ensures c.requires.standing free c.if-w-self.false,
+      omega (arith, forward_fewer c.loop-left.invariant c.loop-left-test.true c.lowest.ensures c.requires.standing free (search rules), c.decreases),
+      forward_asked c.loop-left.invariant c.loop-left-test.true c.lowest.ensures c.requires.standing free (search rules),
     )
 
-pub visit_database-loop-m-preserved : goal.visit_database-loop-m-preserved
-visit_database-loop-m-preserved t c =
-    slots_turn c.loop-m.invariant c.loop-m-test.true c.lowest.ensures c.rest-m.ensures c.others-m-else-w-self.ensures
-    (turn_forward c.loop-m.invariant c.loop-m-test.true c.lowest.ensures c.requires.standing (sym c.holds.ensures ∙ c.if-holds.false) c.if-w-self.false _ c.visit_job.ensures)
+pub visit_database-loop-left-preserved : goal.visit_database-loop-left-preserved
+visit_database-loop-left-preserved t c =
+    slots_turn c.loop-left.invariant c.loop-left-test.true c.lowest.ensures c.rest-left.ensures c.others-left-else-eq.ensures
+    (turn_forward c.loop-left.invariant c.loop-left-test.true c.lowest.ensures c.requires.standing (sym c.holds.ensures ∙ c.if-holds.false) (search rules) _ c.visit_job.ensures)
 
 pub visit_database-returns : goal.visit_database-returns
-visit_database-returns t c = slots_done c.loop-m.invariant c.loop-m-test.false
+visit_database-returns t c = slots_done c.loop-left.invariant c.loop-left-test.false
 
 -- visit_job
 
