@@ -1,7 +1,7 @@
 #![tactic(auto)]
 // The opening search of document 01. Visiting a job leads to its databases, and visiting a database leads to jobs again.
 ghost use Rattle.std.specs.Prelude.{◌≡◌, ◌<◌};
-ghost use Rattle.mask.specs.Member.{excluding};
+ghost use Rattle.mask.specs.Member.{holds, excluding};
 ghost use Rattle.search.specs.Limits.{jobs, databases};
 ghost use Rattle.search.specs.Search.{sought};
 ghost use Rattle.search.specs.Visit.{put_ahead, all_ahead, turned, BeforeJob, JobVisited, BeforeDatabase, DatabaseVisited, Others};
@@ -99,11 +99,11 @@ impl Walker<'_> {
             let w = Slot(left.lowest() as u8);
             left = left.rest();
             let at = k * Slot::COUNT + w.0 as usize;
-            if self.dependencies[at].holds(v.0) {
+            if has(self.dependencies[at], v) {
                 continue;
             }
             if w == self.job {
-                if !self.found[k].holds(v.0) {
+                if !has(self.found[k], v) {
                     self.found[k] |= 1 << v.0;
                     self.moves += 1;
                 }
@@ -135,6 +135,14 @@ fn without(all: u16, via: Option<Database>) -> u16
     ensures { result ≡ excluding all (turned via) }
 {
     via.map_or(all, |u| all.without_member(u.0))
+}
+
+// Whether v is one of the slots. Here `Set::holds` was tried: it tests v again, and the search took 11% longer.
+fn has(slots: u32, v: Slot) -> bool
+    requires { v.0 < jobs }
+    ensures { result ≡ holds slots v.0 }
+{
+    (slots >> v.0) % 2 == 1
 }
 
 // The slots of `all` but v that are not reached: those that are would be passed over one by one.

@@ -10,27 +10,27 @@ pub visit_database-loop-left-init : goal.visit_database-loop-left-init
 visit_database-loop-left-init t c = slots_start c.requires.ready c.others-left.ensures
 
 -- v goes before w
-pub visit_database-loop-left-preserved-then-holds : goal.visit_database-loop-left-preserved-then-holds
-visit_database-loop-left-preserved-then-holds t c =
+pub visit_database-loop-left-preserved-then-has : goal.visit_database-loop-left-preserved-then-has
+visit_database-loop-left-preserved-then-has t c =
     slots_rest c.loop-left.invariant c.loop-left-test.true c.lowest.ensures c.rest-left.ensures refl
-    (turn_held c.loop-left.invariant c.loop-left-test.true c.lowest.ensures c.requires.standing (sym c.holds.ensures ∙ c.if-holds.true))
+    (turn_held c.loop-left.invariant c.loop-left-test.true c.lowest.ensures c.requires.standing (sym c.has.ensures ∙ c.if-has.true))
 
 -- the new job, and the dependency is found now
-pub visit_database-loop-left-preserved-then-not-holds : goal.visit_database-loop-left-preserved-then-not-holds
-visit_database-loop-left-preserved-then-not-holds t c =
+pub visit_database-loop-left-preserved-then-not-has : goal.visit_database-loop-left-preserved-then-not-has
+visit_database-loop-left-preserved-then-not-has t c =
     slots_rest c.loop-left.invariant c.loop-left-test.true c.lowest.ensures c.rest-left.ensures refl
-    (turn_closes c.loop-left.invariant c.loop-left-test.true c.lowest.ensures c.requires.standing (sym c.holds.ensures ∙ c.if-holds.false) (search rules) (sym c.holds-then-eq.ensures ∙ c.if-not-holds.true))
+    (turn_closes c.loop-left.invariant c.loop-left-test.true c.lowest.ensures c.requires.standing (sym c.has.ensures ∙ c.if-has.false) (search rules) (sym c.has-then-eq.ensures ∙ c.if-not-has.true))
 
 -- the new job, and the dependency is found already
-pub visit_database-loop-left-preserved-else-not-holds : goal.visit_database-loop-left-preserved-else-not-holds
-visit_database-loop-left-preserved-else-not-holds t c =
+pub visit_database-loop-left-preserved-else-not-has : goal.visit_database-loop-left-preserved-else-not-has
+visit_database-loop-left-preserved-else-not-has t c =
     slots_rest c.loop-left.invariant c.loop-left-test.true c.lowest.ensures c.rest-left.ensures refl
-    (turn_found c.loop-left.invariant c.loop-left-test.true c.lowest.ensures c.requires.standing (sym c.holds.ensures ∙ c.if-holds.false) (search rules) (sym c.holds-then-eq.ensures ∙ c.if-not-holds.false))
+    (turn_found c.loop-left.invariant c.loop-left-test.true c.lowest.ensures c.requires.standing (sym c.has.ensures ∙ c.if-has.false) (search rules) (sym c.has-then-eq.ensures ∙ c.if-not-has.false))
 
 -- another job: it is visited
 pub visit_database-visit_job-requires : goal.visit_database-visit_job-requires
 visit_database-visit_job-requires t c =
-    let free = sym c.holds.ensures ∙ c.if-holds.false in (
+    let free = sym c.has.ensures ∙ c.if-has.false in (
       omega (arith, forward_fewer c.loop-left.invariant c.loop-left-test.true c.lowest.ensures c.requires.standing free (search rules), c.decreases),
       forward_asked c.loop-left.invariant c.loop-left-test.true c.lowest.ensures c.requires.standing free (search rules),
     )
@@ -38,7 +38,7 @@ visit_database-visit_job-requires t c =
 pub visit_database-loop-left-preserved : goal.visit_database-loop-left-preserved
 visit_database-loop-left-preserved t c =
     slots_turn c.loop-left.invariant c.loop-left-test.true c.lowest.ensures c.rest-left.ensures c.others-left-else-eq.ensures
-    (turn_forward c.loop-left.invariant c.loop-left-test.true c.lowest.ensures c.requires.standing (sym c.holds.ensures ∙ c.if-holds.false) (search rules) _ c.visit_job.ensures)
+    (turn_forward c.loop-left.invariant c.loop-left-test.true c.lowest.ensures c.requires.standing (sym c.has.ensures ∙ c.if-has.false) (search rules) _ c.visit_job.ensures)
 
 pub visit_database-returns : goal.visit_database-returns
 visit_database-returns t c = slots_done c.loop-left.invariant c.loop-left-test.false
