@@ -22,7 +22,7 @@ use Rattle.walks.proofs.Opening.{opening_engine}
 use Rattle.numbers.specs.declared.Slot.{Slot}
 use Rattle.search.specs.declared.Sought.{Sought}
 use Rattle.search.specs.Limits.{jobs, databases}
-use Rattle.search.specs.Search.{graph, searched, sought}
+use Rattle.search.specs.Search.{searched, sought}
 use Rattle.search.specs.declared.Walker.{Walker}
 use Rattle.search.specs.Visit.{marks, Given, given, graph_of, sets, all_ahead, Ready, Through, Taken, BeforeJob, JobVisited}
 use Rattle.search.proofs.Ahead.{all_grows, all_only}

@@ -2,7 +2,6 @@
 use Prim.Native.Nat.{ℕ, ◌^◌, ◌<◌}
 use native.Mathlib.Omega.{arith}
 use mathlib.Core.Bool.{Bool, true, false, not, ◌&&◌}
-use mathlib.Core.List.{List}
 use mathlib.Core.Logic.{◌⊎◌, inl, inr}
 use mathlib.Core.Path.{◌≡◌, refl, sym, subst, ◌∙◌}
 use borrow.Author.Tests.{eqb-true, eqb-false, ne_eqb, not-true}
@@ -12,16 +11,16 @@ use lib.Seq.{get_or-set_same, get_or-set_other}
 use Rattle.std.specs.Prelude.{Option}
 use Rattle.numbers.specs.declared.Database.{Database}
 use Rattle.loops.proofs.Tests.{both, and_left, and_right}
-use Rattle.mask.specs.Member.{holds, excluding, less, lowest}
+use Rattle.mask.specs.Member.{holds, excluding, less}
 use Rattle.mask.specs.Lowest.{Lowest}
 use Rattle.mask.proofs.Change.{excluding_lt}
 use Rattle.mask.proofs.Equal.{below_iff}
-use Rattle.mask.proofs.Holds.{holds_below, holds_none, holds_excluding, holds_less_any}
+use Rattle.mask.proofs.Holds.{holds_none, holds_excluding, holds_less_any}
 use Rattle.mask.proofs.Lowest.{lowest_holds}
 use Rattle.search.specs.Limits.{jobs, databases}
 use Rattle.walks.proofs.Walk.{reach_job}
 use Rattle.search.specs.declared.Walker.{Walker}
-use Rattle.search.specs.Visit.{sets, Given, given, graph_of, Ready, Arrived, Standing, Through, Taken, Onward, BeforeJob, JobVisited, BeforeDatabase, DatabaseVisited, turned}
+use Rattle.search.specs.Visit.{sets, Given, given, Ready, Arrived, Standing, Through, Taken, Onward, BeforeJob, JobVisited, BeforeDatabase, DatabaseVisited, turned}
 use Rattle.search.proofs.Onward.{through_on, onward_refl, onward_then}
 
 -- what is arrived at is a slot

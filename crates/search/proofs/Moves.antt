@@ -5,10 +5,8 @@ use mathlib.Core.Bool.{true, false}
 use mathlib.Core.List.{List}
 use mathlib.Core.Logic.{◌⊎◌, inl, inr}
 use mathlib.Core.Path.{◌≡◌, ap, ◌∙◌}
-use borrow.Author.Tests.{ne_eqb}
 use lib.Bits.{bit_or}
 use lib.ListN.{get_or, set, length-set}
-use Rattle.mask.specs.Member.{digit}
 use Rattle.mask.proofs.Words.{or_shl}
 use Rattle.walks.specs.Marks.{count}
 use Rattle.walks.specs.Walk.{Link, Reach, WalkEnd}
@@ -29,12 +27,12 @@ put_is sets u w l = rw (or_shl 32 (get_or sets u 0) w l)
 -- from v through u to w
 
 module _ {g : Given} {v u : ℕ} (at : Standing g v u) {s : Walker} (h : Ready g s) {w : ℕ} where
-  module _ (new : w ≡ g.new) (l : Link (graph_of g) u v w) (absent : ¬ (digit (get_or s.found u 0) v ≡ 1)) where
+  module _ (new : w ≡ g.new) (l : Link (graph_of g) u v w) (absent : marks.has s.found v u ≡ false) where
     closed : Walker
     closed = record s { found = marks.put s.found v u; moves = s.moves + 1 }
 
     one_found : count marks (marks.put s.found v u) ≡ count marks s.found + 1
-    one_found = count_put marks s.found v u h.found_sets at.job at.database (ne_eqb (digit (get_or s.found u 0) v) 1 absent)
+    one_found = count_put marks s.found v u h.found_sets at.job at.database absent
 
     closed_on : Onward g s closed
     unfolding closed

@@ -1,20 +1,20 @@
 -- What the search has goes on from part to part: what was marked stays, and what was through stays through. Assumes nothing.
-use Prim.Native.Nat.{ℕ, ◌+◌, ◌^◌, ◌<◌, ◌≤◌}
+use Prim.Native.Nat.{ℕ, ◌+◌, ◌≤◌}
 use native.Mathlib.Omega.{arith}
 use mathlib.Core.Bool.{true, false}
-use mathlib.Core.List.{List}
 use mathlib.Core.Logic.{◌⊎◌, inl, inr}
 use mathlib.Core.Path.{◌≡◌, refl}
+use Rattle.std.proofs.Common.{Fits, w32}
 use Rattle.walks.proofs.Marking.{count_le, count_mono}
 use Rattle.walks.proofs.Next.{Hit}
 use Rattle.search.specs.declared.Walker.{Walker}
-use Rattle.search.specs.Visit.{marks, Given, graph_of, sets, unmarked, Ready, Through, Taken, Onward}
+use Rattle.search.specs.Visit.{marks, Given, graph_of, sets, unmarked, due, Ready, Through, Taken, Onward}
+
+-- one more move fits
+pub room : (s : Walker) → s.moves ≤ due s → Fits w32 (s.moves + 1)
+room s h = record { fits = omega (arith, count_le marks s.reached, count_le marks s.found) }
 
 module _ {g : Given} where
-  -- one more move fits
-  pub room : {s : Walker} → Ready g s → s.moves + 1 < 2 ^ 32
-  room {s} h = omega (arith, h.fits, count_le marks s.reached, count_le marks s.found)
-
   module _ {s r : Walker} (h : Onward g s r) where
     pub hit_on : {v u w : ℕ} → Hit (graph_of g) marks s.reached s.found v u w → Hit (graph_of g) marks r.reached r.found v u w
     hit_on {v} {u} {w} k = record { closes = λ e. h.found v u (k.closes e); enters = λ e. h.reached w u (k.enters e) }

@@ -11,10 +11,10 @@ use lib.Dec.{eqb}
 use lib.ListN.{get_or}
 use Rattle.std.specs.Prelude.{Some}
 use Rattle.loops.proofs.Tests.{both, and_left, and_right}
-use Rattle.mask.specs.Member.{digit, holds, excluding, lowest}
+use Rattle.mask.specs.Member.{holds, excluding, lowest}
 use Rattle.mask.specs.Lowest.{Lowest}
 use Rattle.mask.proofs.Change.{excluding_lt}
-use Rattle.mask.proofs.Holds.{holds_of, holds_below, holds_none, holds_excluding}
+use Rattle.mask.proofs.Holds.{holds_below, holds_none, holds_excluding}
 use Rattle.mask.proofs.Lowest.{trailing_lowest, lowest_holds}
 use Rattle.mask.proofs.Walking.{rest_falls}
 use Rattle.walks.specs.Walk.{Link}
@@ -93,17 +93,17 @@ module _ {v u : ℕ} {s t : Walker} {m : ℕ} (at : AtSlots v u s t m) where
 
     -- the four ways that a turn can go
 
-    is_dependency : digit (get_or t.dependencies.now (u * jobs + w) 0) v ≡ digit (get_or g.dependencies (u * jobs + w) 0) v
-    is_dependency = ap (λ (x : Given). digit (get_or x.dependencies (u * jobs + w) 0) v) at.onward.ready.same
+    is_dependency : holds (get_or t.dependencies.now (u * jobs + w) 0) v ≡ holds (get_or g.dependencies (u * jobs + w) 0) v
+    is_dependency = ap (λ (x : Given). holds (get_or x.dependencies (u * jobs + w) 0) v) at.onward.ready.same
 
     is_new : t.job.0 ≡ g.new
     is_new = ap (λ (x : Given). x.new) at.onward.ready.same
 
     module _ (st : Standing g v u) where
-      pub turn_held : digit (get_or t.dependencies.now (u * jobs + w) 0) v ≡ 1 → Turned g v u w t t
-      turn_held d = record { onward = onward_refl at.onward.ready; hit = λ l. both (holds_of (get_or g.dependencies (u * jobs + w) 0) v (sym is_dependency ∙ d)) l.free }
+      pub turn_held : holds (get_or t.dependencies.now (u * jobs + w) 0) v ≡ true → Turned g v u w t t
+      turn_held d = record { onward = onward_refl at.onward.ready; hit = λ l. both (sym is_dependency ∙ d) l.free }
 
-      module _ (d : ¬ (digit (get_or t.dependencies.now (u * jobs + w) 0) v ≡ 1)) where
+      module _ (d : holds (get_or t.dependencies.now (u * jobs + w) 0) v ≡ false) where
         pub slot_link : Link (graph_of g) u v w
         slot_link = record {
           job = low.within;
@@ -111,13 +111,13 @@ module _ {v u : ℕ} {s t : Walker} {m : ℕ} (at : AtSlots v u s t m) where
           leaves = st.names;
           enters = slot_fresh.names;
           differ = slot_fresh.differs;
-          free = ne_eqb _ 1 (λ e. d (is_dependency ∙ e));
+          free = sym is_dependency ∙ d;
         }
 
-        pub turn_found : w ≡ t.job.0 → digit (get_or t.found u 0) v ≡ 1 → Turned g v u w t t
-        turn_found new f = record { onward = onward_refl at.onward.ready; hit = λ l. record { closes = λ q. holds_of (get_or t.found u 0) v f; enters = λ old. absurd (old (new ∙ is_new)) } }
+        pub turn_found : w ≡ t.job.0 → marks.has t.found v u ≡ true → Turned g v u w t t
+        turn_found new f = record { onward = onward_refl at.onward.ready; hit = λ l. record { closes = λ q. f; enters = λ old. absurd (old (new ∙ is_new)) } }
 
-        pub turn_closes : w ≡ t.job.0 → ¬ (digit (get_or t.found u 0) v ≡ 1) → Turned g v u w t (record t { found = put_in t.found u v; moves = t.moves + 1 })
+        pub turn_closes : w ≡ t.job.0 → marks.has t.found v u ≡ false → Turned g v u w t (record t { found = put_in t.found u v; moves = t.moves + 1 })
         turn_closes new f = record { onward = closing_on st at.onward.ready (new ∙ is_new) slot_link f; hit = λ l. closing_hit st at.onward.ready (new ∙ is_new) slot_link f }
 
         -- what the visit of w asks, and that fewer pairs are left to it

@@ -1,71 +1,47 @@
-use Rattle.std.proofs.Common.{refl, arith}
-use Rattle.search.proofs.Onward.{room, unmarked_le}
-use Rattle.search.proofs.Slots.{slots_start, slot_below, turn_held, turn_found, turn_closes, forward_fewer, forward_asked, turn_forward, rest_less, others_less, slots_rest, slots_turn, slots_done}
+use Rattle.std.proofs.Common.{refl, sym, ◌∙◌, arith, rules}
+use Rattle.search.proofs.Onward.{unmarked_le}
+use Rattle.search.proofs.Slots.{slots_start, turn_held, turn_found, turn_closes, forward_fewer, forward_asked, turn_forward, slots_rest, slots_turn, slots_done}
 use Rattle.search.proofs.Databases.{databases_start, taking_ready, taken_standing, databases_done, database_asked, database_taken, databases_turn}
 use Rattle.search.proofs.Walker.+visit_database_visit_job.Goals as goal
 
 -- visit_database: in each turn of its loop at w, the lowest of the slots to try
 
-pub visit_database-loop-m-init : goal.visit_database-loop-m-init
-visit_database-loop-m-init t c = slots_start c.requires.ready c.others-m.ensures
+pub visit_database-loop-left-init : goal.visit_database-loop-left-init
+visit_database-loop-left-init t c = slots_start c.requires.ready c.others-left.ensures
+
+-- v goes before w
+pub visit_database-loop-left-preserved-then-has : goal.visit_database-loop-left-preserved-then-has
+visit_database-loop-left-preserved-then-has t c =
+    slots_rest c.loop-left.invariant c.loop-left-test.true c.lowest.ensures c.rest-left.ensures refl
+    (turn_held c.loop-left.invariant c.loop-left-test.true c.lowest.ensures c.requires.standing (sym c.has.ensures ∙ c.if-has.true))
 
 -- the new job, and the dependency is found now
-pub visit_database-overflow_add-self : goal.visit_database-overflow_add-self
-visit_database-overflow_add-self t c = record { fits = room c.loop-m.invariant.onward.ready }
-
-pub visit_database-loop-m-smaller-then-self-k-ne1 : goal.visit_database-loop-m-smaller-then-self-k-ne1
-visit_database-loop-m-smaller-then-self-k-ne1 t c =
-    rest_less c.loop-m.invariant c.loop-m-test.true c.lowest.ensures c.rest-m.ensures
-
-pub visit_database-loop-m-preserved-then-self-k-ne1 : goal.visit_database-loop-m-preserved-then-self-k-ne1
-visit_database-loop-m-preserved-then-self-k-ne1 t c =
-    slots_rest c.loop-m.invariant c.loop-m-test.true c.lowest.ensures c.rest-m.ensures refl
-    (turn_closes c.loop-m.invariant c.loop-m-test.true c.lowest.ensures c.requires.standing c.if-self-at-ne1.true c.if-w-self.true c.if-self-k-ne1.true)
+pub visit_database-loop-left-preserved-then-not-has : goal.visit_database-loop-left-preserved-then-not-has
+visit_database-loop-left-preserved-then-not-has t c =
+    slots_rest c.loop-left.invariant c.loop-left-test.true c.lowest.ensures c.rest-left.ensures refl
+    (turn_closes c.loop-left.invariant c.loop-left-test.true c.lowest.ensures c.requires.standing (sym c.has.ensures ∙ c.if-has.false) (search rules) (sym c.has-then-eq.ensures ∙ c.if-not-has.true))
 
 -- the new job, and the dependency is found already
-pub visit_database-loop-m-smaller-else-self-k-ne1 : goal.visit_database-loop-m-smaller-else-self-k-ne1
-visit_database-loop-m-smaller-else-self-k-ne1 t c =
-    rest_less c.loop-m.invariant c.loop-m-test.true c.lowest.ensures c.rest-m.ensures
-
-pub visit_database-loop-m-preserved-else-self-k-ne1 : goal.visit_database-loop-m-preserved-else-self-k-ne1
-visit_database-loop-m-preserved-else-self-k-ne1 t c =
-    slots_rest c.loop-m.invariant c.loop-m-test.true c.lowest.ensures c.rest-m.ensures refl
-    (turn_found c.loop-m.invariant c.loop-m-test.true c.lowest.ensures c.requires.standing c.if-self-at-ne1.true c.if-w-self.true c.if-self-k-ne1.false)
+pub visit_database-loop-left-preserved-else-not-has : goal.visit_database-loop-left-preserved-else-not-has
+visit_database-loop-left-preserved-else-not-has t c =
+    slots_rest c.loop-left.invariant c.loop-left-test.true c.lowest.ensures c.rest-left.ensures refl
+    (turn_found c.loop-left.invariant c.loop-left-test.true c.lowest.ensures c.requires.standing (sym c.has.ensures ∙ c.if-has.false) (search rules) (sym c.has-then-eq.ensures ∙ c.if-not-has.false))
 
 -- another job: it is visited
-pub visit_database-overflow_add-self-else-w-self : goal.visit_database-overflow_add-self-else-w-self
-visit_database-overflow_add-self-else-w-self t c = record { fits = room c.loop-m.invariant.onward.ready }
-
 pub visit_database-visit_job-requires : goal.visit_database-visit_job-requires
-visit_database-visit_job-requires t c = (
-  omega (arith, forward_fewer c.loop-m.invariant c.loop-m-test.true c.lowest.ensures c.requires.standing c.if-self-at-ne1.true c.if-w-self.false, c.decreases),
-  forward_asked c.loop-m.invariant c.loop-m-test.true c.lowest.ensures c.requires.standing c.if-self-at-ne1.true c.if-w-self.false,
-)
+visit_database-visit_job-requires t c =
+    let free = sym c.has.ensures ∙ c.if-has.false in (
+      omega (arith, forward_fewer c.loop-left.invariant c.loop-left-test.true c.lowest.ensures c.requires.standing free (search rules), c.decreases),
+      forward_asked c.loop-left.invariant c.loop-left-test.true c.lowest.ensures c.requires.standing free (search rules),
+    )
 
-pub visit_database-overflow_add-self-else-w-self-2 : goal.visit_database-overflow_add-self-else-w-self-2
-visit_database-overflow_add-self-else-w-self-2 t c = record { fits = room c.visit_job.ensures.onward.ready }
-
-pub visit_database-loop-m-smaller-else-w-self : goal.visit_database-loop-m-smaller-else-w-self
-visit_database-loop-m-smaller-else-w-self t c =
-    others_less c.loop-m.invariant c.loop-m-test.true c.lowest.ensures c.rest-m.ensures c.others-m-else-w-self.ensures
-
-pub visit_database-loop-m-preserved-else-w-self : goal.visit_database-loop-m-preserved-else-w-self
-visit_database-loop-m-preserved-else-w-self t c =
-    slots_turn c.loop-m.invariant c.loop-m-test.true c.lowest.ensures c.rest-m.ensures c.others-m-else-w-self.ensures
-    (turn_forward c.loop-m.invariant c.loop-m-test.true c.lowest.ensures c.requires.standing c.if-self-at-ne1.true c.if-w-self.false _ c.visit_job.ensures)
-
--- v goes after w
-pub visit_database-loop-m-smaller : goal.visit_database-loop-m-smaller
-visit_database-loop-m-smaller t c =
-    rest_less c.loop-m.invariant c.loop-m-test.true c.lowest.ensures c.rest-m.ensures
-
-pub visit_database-loop-m-preserved : goal.visit_database-loop-m-preserved
-visit_database-loop-m-preserved t c =
-    slots_rest c.loop-m.invariant c.loop-m-test.true c.lowest.ensures c.rest-m.ensures refl
-    (turn_held c.loop-m.invariant c.loop-m-test.true c.lowest.ensures c.requires.standing c.if-self-at-ne1.false)
+pub visit_database-loop-left-preserved : goal.visit_database-loop-left-preserved
+visit_database-loop-left-preserved t c =
+    slots_turn c.loop-left.invariant c.loop-left-test.true c.lowest.ensures c.rest-left.ensures c.others-left-else-eq.ensures
+    (turn_forward c.loop-left.invariant c.loop-left-test.true c.lowest.ensures c.requires.standing (sym c.has.ensures ∙ c.if-has.false) (search rules) _ c.visit_job.ensures)
 
 pub visit_database-returns : goal.visit_database-returns
-visit_database-returns t c = slots_done c.loop-m.invariant c.loop-m-test.false
+visit_database-returns t c = slots_done c.loop-left.invariant c.loop-left-test.false
 
 -- visit_job
 

@@ -11,11 +11,11 @@ decreases-visit_database l = 2 * unmarked l.self.now.reached
 abbrev pub decreases-visit_job : goal.decreases-visit_job
 decreases-visit_job l = 2 * unmarked l.self.now.reached + 1
 
-abbrev pub invariant-visit_database-loop-m : goal.invariant-visit_database-loop-m
-invariant-visit_database-loop-m l = AtSlots l.v.0 l.u.0 l.initial.self l.self l.m
+abbrev pub invariant-visit_database-loop-left : goal.invariant-visit_database-loop-left
+invariant-visit_database-loop-left l = AtSlots l.v.0 l.u.0 l.initial.self l.self l.left
 
-abbrev pub decreases-visit_database-loop-m : goal.decreases-visit_database-loop-m
-decreases-visit_database-loop-m l = l.m
+abbrev pub decreases-visit_database-loop-left : goal.decreases-visit_database-loop-left
+decreases-visit_database-loop-left l = l.left
 
 abbrev pub invariant-visit_job-loop-u : goal.invariant-visit_job-loop-u
 invariant-visit_job-loop-u l =

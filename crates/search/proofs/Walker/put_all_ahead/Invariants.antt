@@ -1,4 +1,4 @@
-use Rattle.std.proofs.Common.{◌≡◌, ◌≤◌, get_or}
+use Rattle.std.proofs.Common.{◌≡◌, get_or}
 use Rattle.loops.specs.Loop.{over}
 use Rattle.search.specs.Visit.{put_ahead}
 use Rattle.search.proofs.Walker.put_all_ahead.Given as goal
