@@ -117,7 +117,7 @@ module _ {s : Walker} {v : ℕ} {through : Option Database} (asked : BeforeJob s
       by false = refl
 
   -- from v one may go on through each of those taken
-  pub taken_standing : (u : ℕ) → holds m₀ u ≡ true → Standing g v u
+  taken_standing : (u : ℕ) → holds m₀ u ≡ true → Standing g v u
   taken_standing u e =
       let p : not (eqb u via) && sets.has s.ahead u v ≡ true = sym (member u) ∙ e in
       let q = h.ahead_named v u hv (and_right (not (eqb u via)) (sets.has s.ahead u v) p) in
@@ -129,6 +129,13 @@ module _ {s : Walker} {v : ℕ} {through : Option Database} (asked : BeforeJob s
         turns = eqb-false u via (not-true (eqb u via) (and_left (not (eqb u via)) (sets.has s.ahead u v) p));
         arrived = asked.arrived;
       }
+
+  -- what the visit of the lowest of those left asks
+  pub database_asked : {t : Walker} {m : ℕ} → AtDatabases v m₀ (taking s v x) t m → {u : ℕ} → Lowest databases m u → BeforeDatabase t v u
+  database_asked {t} at {u} low = record {
+    ready = subst (λ (x : Given). Ready x t) (sym at.onward.ready.same) at.onward.ready;
+    standing = subst (λ (x : Given). Standing x v u) (sym at.onward.ready.same) (taken_standing u (at.among u (lowest_holds low)));
+  }
 
   pub databases_done : {t : Walker} {m : ℕ} → AtDatabases v m₀ (taking s v x) t m → m ≡ 0 → JobVisited s v through t
   databases_done {t} {m} at z = record {
@@ -160,17 +167,7 @@ module _ {s : Walker} {v : ℕ} {through : Option Database} (asked : BeforeJob s
 
 -- a turn: u is the lowest of those left
 
-module _ {v m₀ : ℕ} {s t : Walker} {m : ℕ} (at : AtDatabases v m₀ s t m) {u : ℕ} (low : Lowest databases m u) where
-  pub database_taken : holds m₀ u ≡ true
-  database_taken = at.among u (lowest_holds low)
-
-  -- what the visit of u asks
-  pub database_asked : Standing (given s) v u → BeforeDatabase t v u
-  database_asked st = record {
-    ready = subst (λ (x : Given). Ready x t) (sym at.onward.ready.same) at.onward.ready;
-    standing = subst (λ (x : Given). Standing x v u) (sym at.onward.ready.same) st;
-  }
-
+module _ {v m₀ : ℕ} {s t : Walker} {m : ℕ} (at : AtDatabases v m₀ s t m) {u : ℕ} where
   pub databases_turn : {k : ℕ} → k ≡ excluding m u → (r : Walker) → DatabaseVisited t v u r → AtDatabases v m₀ s r k
   databases_turn {k} p r visited = record {
     onward = onward_then at.onward now;

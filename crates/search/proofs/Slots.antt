@@ -1,6 +1,6 @@
 -- The loop of visit_database: the slots to try at a database, walked from low to high. Assumes nothing.
 use Prim.Native.Nat.{ℕ, ◌+◌, ◌*◌, ◌^◌, ◌<◌}
-use native.Mathlib.Nat.{lt_of_le_of_lt, lt_of_lt_of_le}
+use native.Mathlib.Nat.{lt_of_lt_of_le}
 use native.Mathlib.Omega.{arith}
 use mathlib.Core.Bool.{Bool, true, false, not, ◌&&◌}
 use mathlib.Core.List.{List}
@@ -16,7 +16,6 @@ use Rattle.mask.specs.Lowest.{Lowest}
 use Rattle.mask.proofs.Change.{excluding_lt}
 use Rattle.mask.proofs.Holds.{holds_below, holds_none, holds_excluding}
 use Rattle.mask.proofs.Lowest.{trailing_lowest, lowest_holds}
-use Rattle.mask.proofs.Walking.{rest_falls}
 use Rattle.walks.specs.Walk.{Link}
 use Rattle.walks.proofs.Walk.{reach_not_new}
 use Rattle.walks.proofs.Next.{Hit}
@@ -85,10 +84,7 @@ module _ {v u : ℕ} {s t : Walker} {m : ℕ} (at : AtSlots v u s t m) where
     low : Lowest jobs m w
     low = rw e (trailing_lowest jobs m (omega arith) at.below)
 
-    pub slot_below : w < jobs
-    slot_below = low.within
-
-    pub slot_fresh : Fresh g t.reached v u w
+    slot_fresh : Fresh g t.reached v u w
     slot_fresh = at.fresh w (lowest_holds low)
 
     -- the four ways that a turn can go
@@ -100,11 +96,11 @@ module _ {v u : ℕ} {s t : Walker} {m : ℕ} (at : AtSlots v u s t m) where
     is_new = ap (λ (x : Given). x.new) at.onward.ready.same
 
     module _ (st : Standing g v u) where
-      pub turn_held : holds (get_or t.dependencies.now (u * jobs + w) 0) v ≡ true → Turned g v u w t t
+      turn_held : holds (get_or t.dependencies.now (u * jobs + w) 0) v ≡ true → Turned g v u w t t
       turn_held d = record { onward = onward_refl at.onward.ready; hit = λ l. both (sym is_dependency ∙ d) l.free }
 
       module _ (d : holds (get_or t.dependencies.now (u * jobs + w) 0) v ≡ false) where
-        pub slot_link : Link (graph_of g) u v w
+        slot_link : Link (graph_of g) u v w
         slot_link = record {
           job = low.within;
           database = st.database;
@@ -114,10 +110,10 @@ module _ {v u : ℕ} {s t : Walker} {m : ℕ} (at : AtSlots v u s t m) where
           free = sym is_dependency ∙ d;
         }
 
-        pub turn_found : w ≡ t.job.0 → marks.has t.found v u ≡ true → Turned g v u w t t
+        turn_found : w ≡ t.job.0 → marks.has t.found v u ≡ true → Turned g v u w t t
         turn_found new f = record { onward = onward_refl at.onward.ready; hit = λ l. record { closes = λ q. f; enters = λ old. absurd (old (new ∙ is_new)) } }
 
-        pub turn_closes : w ≡ t.job.0 → marks.has t.found v u ≡ false → Turned g v u w t (record t { found = put_in t.found u v; moves = t.moves + 1 })
+        turn_closes : w ≡ t.job.0 → marks.has t.found v u ≡ false → Turned g v u w t (record t { found = put_in t.found u v; moves = t.moves + 1 })
         turn_closes new f = record { onward = closing_on st at.onward.ready (new ∙ is_new) slot_link f; hit = λ l. closing_hit st at.onward.ready (new ∙ is_new) slot_link f }
 
         -- what the visit of w asks, and that fewer pairs are left to it
@@ -126,20 +122,20 @@ module _ {v u : ℕ} {s t : Walker} {m : ℕ} (at : AtSlots v u s t m) where
           other : ¬ (w ≡ g.new)
           other e = old (e ∙ sym is_new)
 
-          pub forward_fewer : unmarked (put_in t.reached u w) < unmarked s.reached
-          forward_fewer = lt_of_lt_of_le (next_falls st at.onward.ready other slot_link slot_fresh.absent) (unmarked_le at.onward)
-
           -- w is marked
           abbrev goes : Walker
           goes = record t { reached = put_in t.reached u w; moves = t.moves + 1 }
 
-          pub forward_asked : BeforeJob goes w (Some (record { 0 = u }))
-          forward_asked = record {
-            ready = subst (λ (x : Given). Ready x goes) (sym at.onward.ready.same) (next_ready st at.onward.ready other slot_link slot_fresh.absent);
-            arrived = subst (λ (x : Given). Arrived x w u) (sym at.onward.ready.same) (inr (walk_on st at.onward.ready other slot_link slot_fresh.absent));
-          }
+          pub forward_asked : (unmarked goes.reached < unmarked s.reached) × BeforeJob goes w (Some (record { 0 = u }))
+          forward_asked = (
+            lt_of_lt_of_le (next_falls st at.onward.ready other slot_link slot_fresh.absent) (unmarked_le at.onward),
+            record {
+              ready = subst (λ (x : Given). Ready x goes) (sym at.onward.ready.same) (next_ready st at.onward.ready other slot_link slot_fresh.absent);
+              arrived = subst (λ (x : Given). Arrived x w u) (sym at.onward.ready.same) (inr (walk_on st at.onward.ready other slot_link slot_fresh.absent));
+            },
+          )
 
-          pub turn_forward : (r : Walker) → JobVisited goes w (Some (record { 0 = u })) r → Turned g v u w t (record r { moves = r.moves + 1 })
+          turn_forward : (r : Walker) → JobVisited goes w (Some (record { 0 = u })) r → Turned g v u w t (record r { moves = r.moves + 1 })
           turn_forward r k =
               let on : Onward g goes r = subst (λ (x : Given). Onward x goes r) at.onward.ready.same k.onward in
               record {
@@ -150,9 +146,6 @@ module _ {v u : ℕ} {s t : Walker} {m : ℕ} (at : AtSlots v u s t m) where
     -- x is left of m without w
 
     module _ {x : ℕ} (p : x ≡ excluding m (lowest jobs m)) where
-      pub rest_less : x < m
-      rest_less = rw (p, ← e) (rest_falls low)
-
       kept : (j : ℕ) → holds x j ≡ not (eqb j w) && holds m j
       kept j = rw (p, ← e) (holds_excluding m w j)
 
@@ -171,7 +164,7 @@ module _ {v u : ℕ} {s t : Walker} {m : ℕ} (at : AtSlots v u s t m) where
           by false q (inl h) = inl (kept j ∙ rw (q, h))
 
       -- nothing more is reached
-      pub slots_rest : {r : Walker} → r.reached ≡ t.reached → Turned g v u w t r → AtSlots v u s r x
+      slots_rest : {r : Walker} → r.reached ≡ t.reached → Turned g v u w t r → AtSlots v u s r x
       slots_rest same now = record {
         onward = onward_then at.onward now.onward;
         below = rw p (excluding_lt jobs m (lowest jobs m) at.below);
@@ -180,7 +173,7 @@ module _ {v u : ℕ} {s t : Walker} {m : ℕ} (at : AtSlots v u s t m) where
       }
 
       -- k is to try of x, once more is reached
-      pub slots_turn : {r : Walker} {k : ℕ} → Others x (get_or r.reached u 0) v k → Turned g v u w t r → AtSlots v u s r k
+      slots_turn : {r : Walker} {k : ℕ} → Others x (get_or r.reached u 0) v k → Turned g v u w t r → AtSlots v u s r k
       slots_turn {r} {k} o now = record {
         onward = onward_then at.onward now.onward;
         below = o.below;
@@ -193,8 +186,22 @@ module _ {v u : ℕ} {s t : Walker} {m : ℕ} (at : AtSlots v u s t m) where
           by j l (inl h) = try_or_hit now.onward.ready o j l.job l.differ h
           by j l (inr h) = inr h
 
-      pub others_less : {y z : ℕ} → Others x y v z → z < m
-      others_less o = lt_of_le_of_lt o.most rest_less
+      -- what is left after each of the four ways
+
+      module _ (st : Standing g v u) where
+        pub slots_held : holds (get_or t.dependencies.now (u * jobs + w) 0) v ≡ true → AtSlots v u s t x
+        slots_held d = slots_rest refl (turn_held st d)
+
+        module _ (d : holds (get_or t.dependencies.now (u * jobs + w) 0) v ≡ false) where
+          pub slots_found : w ≡ t.job.0 → marks.has t.found v u ≡ true → AtSlots v u s t x
+          slots_found new f = slots_rest refl (turn_found st d new f)
+
+          pub slots_closed : w ≡ t.job.0 → marks.has t.found v u ≡ false → AtSlots v u s (record t { found = put_in t.found u v; moves = t.moves + 1 }) x
+          slots_closed new f = slots_rest refl (turn_closes st d new f)
+
+          pub slots_forward : ¬ (w ≡ t.job.0) → {r : Walker} {k : ℕ} → JobVisited (record t { reached = put_in t.reached u w; moves = t.moves + 1 }) w (Some (record { 0 = u })) r
+              → Others x (get_or r.reached u 0) v k → AtSlots v u s (record r { moves = r.moves + 1 }) k
+          slots_forward old {r} visited o = slots_turn o (turn_forward st d old r visited)
 
   pub slots_done : m ≡ 0 → DatabaseVisited s v u t
   slots_done z = record { onward = at.onward; through = record { hits = λ w l. by w (at.left w l) } }

@@ -37,6 +37,9 @@ pub record Given : Type 0 where
 abbrev pub given : Walker → Given
 given s = record { named = s.named.now; dependencies = s.dependencies.now; new = s.job.0 }
 
+abbrev pub graph_of : Given → Graph
+graph_of g = graph g.named g.dependencies g.new
+
 -- the database that a walk may not go back through; there is none as it begins, and no database has that number
 abbrev pub turned : Option Database → ℕ
 turned None = databases
@@ -54,11 +57,8 @@ due s = 2 * count marks s.reached + count marks s.found
 pub record Taken (ahead : List ℕ) (v t : ℕ) : Type 0 where
   pub each : (u : ℕ) → ¬ (u ≡ t) → sets.has ahead u v ≡ false
 
-abbrev pub graph_of : Given → Graph
-graph_of g = graph g.named g.dependencies g.new
-
 module _ (g : Given) where
-  -- ahead of a slot are only databases that it names; the marks tell of walks only; and there are no more moves than the marks take, so they fit into their number
+  -- s works on what is given; ahead of a slot are only databases that it names; the marks tell of walks only; and there are no more moves than the marks take, so they fit into their number
   pub record Ready (s : Walker) : Type 0 where
     pub same : given s ≡ g
     pub new_job : g.new < jobs
