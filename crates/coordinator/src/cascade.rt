@@ -5,6 +5,7 @@ ghost use Rattle.coordinator.specs.Limits.{jobs};
 ghost use Rattle.coordinator.specs.Close.{Closing, closing};
 
 use crate::answers::Closed;
+use crate::steps::Job;
 use crate::{Coordinator, may_close, slots};
 
 impl Coordinator {
@@ -17,11 +18,12 @@ impl Coordinator {
         let mut count = 0usize;
         let mut left = found;
         while left != 0 {
-            let j = slots::lowest_of(left);
-            let at = j.0 as usize;
-            tickets[count] = self.tickets[at];
+            let job = Job {
+                slot: slots::lowest_of(left),
+            };
+            tickets[count] = self.tickets[job.slot.0 as usize];
             count += 1;
-            self.remove(j);
+            self.remove(job);
             left = may_close::may_close_now(&self.dependencies, self.held);
         }
         Closed {

@@ -13,10 +13,10 @@ returns-in_err-of_close c =
     let p = err_from_is_err_and c.from_residual.result c.from_residual.ensures.1 in
     rw (p.1, p.2) (close_refused _ _ _ _ (sym (close_rows r _ _ _ c.all_confirmed-finished.ensures c.holds-waits.ensures) ∙ refused _ _ c.in_err-of_close.ensures))
 
-pub may_close-requires : goal.may_close-requires
-may_close-requires c =
+pub invariant_of-may_close : goal.invariant_of-may_close
+invariant_of-may_close c =
     let r = read c.args.self.now c.args.ticket.0 _ _ c.holders_of-found.ensures c.lowest_of-slot.ensures in
-    close_fits r _ _ _ (not_refused _ _ c.in_ok-of_close.ensures)
+    record { in_range = close_fits r _ _ _ (not_refused _ _ c.in_ok-of_close.ensures) }
 
 pub close_from-requires : goal.close_from-requires
 close_from-requires c =
