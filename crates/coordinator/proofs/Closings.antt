@@ -74,11 +74,8 @@ among_held s j e =
 
 module _ {s₀ : Coordinator} {found : ℕ} {s : Coordinator} {tickets : List ℕ} {count next : ℕ} (g : Going s₀ found s tickets count next) where
   module _ (n : ¬ (next ≡ 0)) where
-    pub going_lowest : Lowest jobs next (lowest jobs next)
+    going_lowest : Lowest jobs next (lowest jobs next)
     going_lowest = trailing_lowest jobs next (omega arith) g.fits
-
-    pub going_slot : (j : ℕ) → j ≡ lowest jobs next → j < jobs
-    going_slot j e = rw e going_lowest.within
 
     one_less : size jobs (bit_or s.held next) ≡ size jobs (excluding (bit_or s.held next) (lowest jobs next)) + 1
     one_less =

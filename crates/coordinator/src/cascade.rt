@@ -18,12 +18,10 @@ impl Coordinator {
         let mut count = 0usize;
         let mut left = found;
         while left != 0 {
-            let job = Job {
-                slot: slots::lowest_of(left),
-            };
-            tickets[count] = self.tickets[job.slot.0 as usize];
+            let slot = slots::lowest_of(left);
+            tickets[count] = self.tickets[slot.0 as usize];
             count += 1;
-            self.remove(job);
+            self.remove(Job { slot });
             left = may_close::may_close_now(&self.dependencies, self.held);
         }
         Closed {

@@ -19,17 +19,16 @@ impl Coordinator {
         requires { (slots ≡ open_in self.old.named) × ¬ (size jobs slots ≡ jobs) }
         ensures { ◌≡◌ {A = After Opened} (record { answer = Ok result; state = self.new }) (accepted self.old (free_slot self.old) mask) }
     {
-        let job = Job {
-            slot: slots::lowest_of(!slots),
-        };
+        let slot = slots::lowest_of(!slots);
         let count = slots.size() as usize;
         let held = tickets::held_tickets(&self.tickets, &self.order, count);
         let ticket = self.maker.take(&held[..count]);
-        self.tickets[job.slot.0 as usize] = ticket.0;
-        self.order[count] = job.slot.0;
+        self.tickets[slot.0 as usize] = ticket.0;
+        self.order[count] = slot.0;
+        let job = Job { slot };
         enter::name_databases(&mut self.named, mask, job);
         enter::lead_released(&mut self.dependencies, &self.released, mask, job);
-        let sought = search::search(&self.named, &self.dependencies, job.slot);
+        let sought = search::search(&self.named, &self.dependencies, slot);
         enter::lead_found(&mut self.dependencies, &sought.found, job);
         let added = count::count_all(&sought.found);
         Opened {

@@ -31,16 +31,16 @@ impl Coordinator {
     pub(crate) fn remove(&mut self, job: Job)
         ensures { self.new ≡ removed self.old job.slot.0 }
     {
-        let j = job.slot;
-        self.tickets[job.slot.0 as usize] = 0;
-        self.held = self.held.without_member(j.0);
-        let place = order::place(&self.order, j);
+        let slot = job.slot;
+        self.tickets[slot.0 as usize] = 0;
+        self.held = self.held.without_member(slot.0);
+        let place = order::place(&self.order, slot);
         self.order = order::moved_up(self.order, place);
-        strike(&mut self.named, j);
-        strike(&mut self.asked, j);
-        strike(&mut self.released, j);
-        strike(&mut self.confirmed, j);
-        strike(&mut self.dependencies, j);
+        strike(&mut self.named, slot);
+        strike(&mut self.asked, slot);
+        strike(&mut self.released, slot);
+        strike(&mut self.confirmed, slot);
+        strike(&mut self.dependencies, slot);
         unlead(&mut self.dependencies, job);
     }
 }

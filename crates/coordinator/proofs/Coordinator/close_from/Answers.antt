@@ -13,7 +13,7 @@ pub loop-left-smaller : goal.loop-left-smaller
 loop-left-smaller c = omega (arith, going_room c.loop-left.invariant c.loop-left-test.true)
 
 pub loop-left-preserved : goal.loop-left-preserved
-loop-left-preserved c = going_turn c.loop-left.invariant c.loop-left-test.true _ _ _ (c.remove.ensures ∙ ap (removed c.loop-left.self) c.lowest_of.ensures) (rw c.lowest_of.ensures) c.may_close_now-left.ensures
+loop-left-preserved c = going_turn c.loop-left.invariant c.loop-left-test.true _ _ _ (c.remove.ensures ∙ ap (removed c.loop-left.self) c.lowest_of-slot.ensures) (rw c.lowest_of-slot.ensures) c.may_close_now-left.ensures
 
 pub returns : goal.returns
 returns c = going_done c.loop-left.invariant c.loop-left-test.false
