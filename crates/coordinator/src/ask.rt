@@ -16,10 +16,9 @@ impl Coordinator {
         ensures { ◌≡◌ {A = After Asked} (record { answer = Ok result; state = self.new }) (asked_for self.old step.slot.0 step.database.0) }
     {
         release::mark(&mut self.asked, step);
-        if !release::may_go(
-            self.dependencies[step.index()],
-            self.confirmed[step.database.0 as usize],
-        ) {
+        let into = self.dependencies[step.index()];
+        let confirmed = self.confirmed[step.database.0 as usize];
+        if !release::may_go(into, confirmed) {
             return Asked::Held;
         }
         self.release(step);

@@ -21,8 +21,9 @@ impl Coordinator {
         let finished = may_close::all_confirmed(&self.named, &self.confirmed, slot);
         let waits = self.held.holds(slot.0);
         refusals::of_close(sound, found, finished, waits)?;
-        if may_close::may_close(&self.dependencies, Job { slot }) {
-            return Ok(Some(self.close_from(found)));
+        let job = Job { slot };
+        if may_close::may_close(&self.dependencies, job) {
+            return Ok(Some(self.close_from(job)));
         }
         self.held = self.held.with_member(slot.0);
         Ok(None)

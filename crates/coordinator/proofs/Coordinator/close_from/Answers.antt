@@ -1,10 +1,11 @@
 use Rattle.std.proofs.Common.{◌∙◌, ap, arith}
+use Rattle.mask.proofs.Words.{one_shl}
 use Rattle.coordinator.specs.Change.{removed}
 use Rattle.coordinator.proofs.Closings.{going_start, going_room, going_turn, going_done}
 use Rattle.coordinator.proofs.Coordinator.close_from.Goals as goal
 
 pub loop-left-init : goal.loop-left-init
-loop-left-init c = going_start _ _ c.requires c.ranges.found.fits
+loop-left-init c = going_start _ _ _ c.args.job.in_range (one_shl 32 _ c.args.job.in_range)
 
 pub bounds-tickets-count : goal.bounds-tickets-count
 bounds-tickets-count c = going_room c.loop-left.invariant c.loop-left-test.true
