@@ -3,7 +3,7 @@ use mathlib.Core.Path.{◌≡◌}
 use mathlib.Core.Bool.{Bool, true, false}
 use Prim.Native.Nat.{ℕ, ◌<◌}
 use Rattle.std.specs.Prelude.{Option, None, Ok}
-use Rattle.mask.specs.Member.{holds, joined, lowest}
+use Rattle.mask.specs.Member.{holds, joined}
 use Rattle.mask.proofs.Change.{joined_below}
 use Rattle.refusals.proofs.Passed.{close_passed}
 use Rattle.coordinator.specs.declared.Coordinator.{Coordinator}
@@ -27,11 +27,8 @@ module _ {s : Coordinator} {t f j : ℕ} (r : Read s t f j) (b is_confirmed is_h
   close_rows p q = rw (p, q, r.found, r.slot)
 
   -- a call that is not refused finds a job, in range
-  pub some_found : job_refusal b f is_confirmed is_held ≡ None → ¬ (f ≡ 0)
-  some_found e = close_passed b f is_confirmed is_held e
-
   pub close_fits : job_refusal b f is_confirmed is_held ≡ None → j < jobs
-  close_fits e = slot_below r (some_found e)
+  close_fits e = slot_below r (close_passed b f is_confirmed is_held e)
 
 -- the two ends
 
@@ -59,6 +56,6 @@ module _ (b : Bool) (s : Coordinator) (t j : ℕ) (taken : close_refusal_tested 
   unfolding closed_at mark_held
   held_is e l held h = rw (← taken_at, closed_at, ← may_close_is s j, e, h, joined_below jobs s.held j l)
 
-  pub closed_is : may_close_in s.dependencies j ≡ true → (f : ℕ) → j ≡ lowest jobs f → after_closing (closing s (lowest jobs f)) ≡ after_close_tested b s t
+  pub closed_is : may_close_in s.dependencies j ≡ true → after_closing (closing s j) ≡ after_close_tested b s t
   unfolding closed_at
-  closed_is e f h = rw (← taken_at, closed_at, ← may_close_is s j, e, ← h)
+  closed_is e = rw (← taken_at, closed_at, ← may_close_is s j, e)

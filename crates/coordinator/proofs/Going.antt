@@ -8,13 +8,12 @@ use lib.Bits.{bit_and, and_lt}
 use Rattle.std.proofs.Common.{take, drop, length, get_or-take, get_or-drop, length-take-le, length-drop}
 use Rattle.loops.specs.Sum.{tally}
 use Rattle.loops.proofs.Turns.{over_same}
-use Rattle.mask.specs.Member.{holds, less, within, lowest}
+use Rattle.mask.specs.Member.{holds, less, within}
 use Rattle.mask.specs.Members.{gather}
 use Rattle.mask.proofs.Change.{less_lt}
 use Rattle.mask.proofs.Holds.{holds_and, holds_less}
 use Rattle.mask.proofs.Gather.{gathered_lt, holds_gather}
 use Rattle.mask.proofs.Equal.{same_members}
-use Rattle.mask.proofs.Lowest.{trailing_lowest}
 use Rattle.coordinator.specs.Limits.{jobs, databases, steps}
 use Rattle.coordinator.specs.Views.{entry}
 use Rattle.coordinator.specs.Tables.{going_in}
@@ -42,11 +41,3 @@ pub going_is : (d : List ℕ) (k n asked released confirmed waiting free : ℕ) 
 unfolding going_in
 going_is d k n asked released confirmed waiting free m a r e f =
     rw (e, f, m, rows_gathered d k confirmed) (less_gathered jobs asked released (λ j. within jobs (entry d (k * jobs + j)) confirmed) a r)
-
--- where some may go, the first of them is a slot
-pub first_below : (d : List ℕ) (k asked released confirmed free i : ℕ) → free ≡ going_in d k asked released confirmed → ¬ (free ≡ 0) → i ≡ lowest jobs free → i < jobs
-unfolding going_in
-first_below d k asked released confirmed free i e n p =
-    let q : ℕ → Bool = λ j. holds asked j && not (holds released j) && within jobs (entry d (k * jobs + j)) confirmed in
-    let l : free < 2 ^ jobs = rw e (gathered_lt q jobs) in
-    rw p (trailing_lowest jobs free (omega arith) l).within

@@ -1,28 +1,27 @@
 // Asking for a step.
-ghost use Rattle.std.specs.Prelude.{◌≡◌, ◌<◌, Ok};
+ghost use Rattle.std.specs.Prelude.{◌≡◌, Ok};
 ghost use Rattle.coordinator.specs.declared.answers.After.{After};
 ghost use Rattle.coordinator.specs.declared.answers.Asked.{Asked};
-ghost use Rattle.coordinator.specs.Limits.{jobs, databases};
 ghost use Rattle.coordinator.specs.Ask.{asked_for, after_ask, after_ask_tested};
 
 use crate::answers::{After, Asked};
+use crate::steps::Step;
 use crate::{Coordinator, release, slots, views};
-use numbers::{Database, Slot, Ticket};
+use numbers::{Database, Ticket};
 use refusals::Refusal;
 
 impl Coordinator {
-    // Marks the step of slot j at database k asked, and releases it if it may go.
-    fn ask_for(&mut self, j: Slot, k: Database) -> Asked
-        requires { (j.0 < jobs) × (k.0 < databases) }
-        ensures { ◌≡◌ {A = After Asked} (record { answer = Ok result; state = self.new }) (asked_for self.old j.0 k.0) }
+    // Marks the step asked, and releases it if it may go.
+    fn ask_for(&mut self, step: Step) -> Asked
+        ensures { ◌≡◌ {A = After Asked} (record { answer = Ok result; state = self.new }) (asked_for self.old step.slot.0 step.database.0) }
     {
-        release::mark(&mut self.asked, k, j);
-        let at = k.0 as usize;
-        let step = at * Coordinator::JOBS + j.0 as usize;
-        if !release::may_go(self.dependencies[step], self.confirmed[at]) {
+        release::mark(&mut self.asked, step);
+        let into = self.dependencies[step.index()];
+        let confirmed = self.confirmed[step.database.0 as usize];
+        if !release::may_go(into, confirmed) {
             return Asked::Held;
         }
-        self.release(j, k);
+        self.release(step);
         Asked::Released
     }
 
@@ -40,7 +39,7 @@ impl Coordinator {
         let names = views::holds_at(&self.named, database, slot);
         let before = views::holds_at(&self.asked, database, slot);
         refusals::of_step(sound, found, database, names, before, Refusal::AskedBefore)?;
-        Ok(self.ask_for(slot, database))
+        Ok(self.ask_for(Step { slot, database }))
     }
 
     // Marks the step asked, and releases it if it may go.

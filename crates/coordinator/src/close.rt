@@ -5,6 +5,7 @@ ghost use Rattle.coordinator.specs.declared.answers.Closed.{Closed};
 ghost use Rattle.coordinator.specs.Close.{after_close, after_close_tested};
 
 use crate::answers::{After, Closed};
+use crate::steps::Job;
 use crate::{Coordinator, may_close, slots};
 use mask::Set;
 use numbers::Ticket;
@@ -20,8 +21,9 @@ impl Coordinator {
         let finished = may_close::all_confirmed(&self.named, &self.confirmed, slot);
         let waits = self.held.holds(slot.0);
         refusals::of_close(sound, found, finished, waits)?;
-        if may_close::may_close(&self.dependencies, slot) {
-            return Ok(Some(self.close_from(found)));
+        let job = Job { slot };
+        if may_close::may_close(&self.dependencies, job) {
+            return Ok(Some(self.close_from(job)));
         }
         self.held = self.held.with_member(slot.0);
         Ok(None)

@@ -1,12 +1,12 @@
 // Confirming a step.
-ghost use Rattle.std.specs.Prelude.{not, ◌||◌, ◌≡◌, ◌<◌, Ok, Option};
+ghost use Rattle.std.specs.Prelude.{not, ◌||◌, ◌≡◌, Ok, Option};
 ghost use Rattle.mask.specs.Member.{holds};
 ghost use Rattle.numbers.specs.declared.Ticket.{Ticket};
 ghost use Rattle.coordinator.specs.declared.answers.After.{After};
-ghost use Rattle.coordinator.specs.Limits.{jobs, databases};
 ghost use Rattle.coordinator.specs.Confirm.{confirmed_at, after_confirm, after_confirm_tested};
 
 use crate::answers::After;
+use crate::steps::Step;
 use crate::{Coordinator, release, slots, views};
 use mask::Set;
 use numbers::{Database, Slot, Ticket};
@@ -20,13 +20,12 @@ fn is_settled(released: u32, confirmed: u32, j: Slot) -> bool
 }
 
 impl Coordinator {
-    // Marks the step of slot j at database k confirmed, and releases the first of those there that may go then: whose it is.
-    fn confirm_at(&mut self, j: Slot, k: Database) -> Option<Ticket>
-        requires { (j.0 < jobs) × (k.0 < databases) }
-        ensures { ◌≡◌ {A = After (Option Ticket)} (record { answer = Ok result; state = self.new }) (confirmed_at self.old j.0 k.0) }
+    // Marks the step confirmed, and releases the first of those at its database that may go then: whose it is.
+    fn confirm_at(&mut self, step: Step) -> Option<Ticket>
+        ensures { ◌≡◌ {A = After (Option Ticket)} (record { answer = Ok result; state = self.new }) (confirmed_at self.old step.slot.0 step.database.0) }
     {
-        release::mark(&mut self.confirmed, k, j);
-        let at = k.0 as usize;
+        release::mark(&mut self.confirmed, step);
+        let at = step.database.0 as usize;
         let free = release::going_of(
             &self.dependencies,
             at,
@@ -37,10 +36,10 @@ impl Coordinator {
         if free == 0 {
             return None;
         }
-        let first = slots::lowest_of(free);
-        self.release(first, k);
-        let i = first.0 as usize;
-        Some(Ticket(self.tickets[i]))
+        let slot = slots::lowest_of(free);
+        let database = step.database;
+        self.release(Step { slot, database });
+        Some(Ticket(self.tickets[slot.0 as usize]))
     }
 
     // In place, given whether the state is sound.
@@ -58,7 +57,7 @@ impl Coordinator {
         let gone = views::at(&self.released, database);
         let settled = is_settled(gone, views::at(&self.confirmed, database), slot);
         refusals::of_step(sound, found, database, names, settled, Refusal::Settled)?;
-        Ok(self.confirm_at(slot, database))
+        Ok(self.confirm_at(Step { slot, database }))
     }
 
     // Marks the step confirmed, and releases the first of those at that database that may go then.

@@ -15,6 +15,7 @@ mod release;
 mod remove;
 mod slots;
 mod sound;
+mod steps;
 mod tickets;
 mod views;
 

@@ -1,11 +1,11 @@
 // When a job may close: its steps are confirmed, and nobody goes before it any more.
-ghost use Rattle.std.specs.Prelude.{not, ◌&&◌, ◌≡◌, ℕ, ◌*◌, ◌^◌, ◌<◌};
+ghost use Rattle.std.specs.Prelude.{not, ◌&&◌, ◌≡◌, ℕ, ◌*◌, ◌^◌};
 ghost use Rattle.loops.specs.Sum.{tally};
 ghost use Rattle.mask.specs.Member.{holds};
-ghost use Rattle.coordinator.specs.Limits.{jobs};
 ghost use Rattle.coordinator.specs.Tables.{may_close_in, may_close_now_in, all_confirmed_in};
 
 use crate::Coordinator;
+use crate::steps::Job;
 use mask::Set;
 use numbers::Slot;
 
@@ -31,22 +31,20 @@ pub(crate) fn all_confirmed<'a>(
     !unfinished.holds(j.0)
 }
 
-// No dependency goes into the job in slot j at any database.
-pub(crate) fn may_close(dependencies: &[u32; Coordinator::STEPS], j: Slot) -> bool
-    requires { j.0 < jobs }
-    ensures { result ≡ may_close_in dependencies.now j.0 }
+// No dependency goes into the job at any database.
+pub(crate) fn may_close(dependencies: &[u32; Coordinator::STEPS], job: Job) -> bool
+    ensures { result ≡ may_close_in dependencies.now job.slot.0 }
 {
-    let b = j.0 as usize;
+    let b = job.slot.0 as usize;
     (0..Coordinator::DATABASES).all(|k| dependencies[k * Coordinator::JOBS + b] == 0)
 }
 
-// Slot j as a set, where it may close.
-fn free(dependencies: &[u32; Coordinator::STEPS], j: Slot) -> u32
-    requires { j.0 < jobs }
-    ensures { result ≡ tally (may_close_in dependencies.now j.0) * 2 ^ j.0 }
+// The job's slot as a set, where it may close.
+fn free(dependencies: &[u32; Coordinator::STEPS], job: Job) -> u32
+    ensures { result ≡ tally (may_close_in dependencies.now job.slot.0) * 2 ^ job.slot.0 }
 {
-    if may_close(dependencies, j) {
-        1 << j.0
+    if may_close(dependencies, job) {
+        1 << job.slot.0
     } else {
         0
     }
@@ -58,7 +56,7 @@ pub(crate) fn may_close_now(dependencies: &[u32; Coordinator::STEPS], held: u32)
 {
     let mut found = 0u32;
     for j in held.members() {
-        found |= free(dependencies, Slot(j));
+        found |= free(dependencies, Job { slot: Slot(j) });
     }
     found
 }

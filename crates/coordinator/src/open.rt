@@ -8,6 +8,7 @@ ghost use Rattle.coordinator.specs.Limits.{jobs};
 ghost use Rattle.coordinator.specs.Open.{free_slot, accepted, after_open, after_open_tested};
 
 use crate::answers::{After, Opened};
+use crate::steps::Job;
 use crate::{Coordinator, count, enter, slots, tickets};
 use mask::Set;
 use refusals::Refusal;
@@ -18,17 +19,17 @@ impl Coordinator {
         requires { (slots ≡ open_in self.old.named) × ¬ (size jobs slots ≡ jobs) }
         ensures { ◌≡◌ {A = After Opened} (record { answer = Ok result; state = self.new }) (accepted self.old (free_slot self.old) mask) }
     {
-        let n = slots::lowest_of(!slots);
+        let slot = slots::lowest_of(!slots);
         let count = slots.size() as usize;
         let held = tickets::held_tickets(&self.tickets, &self.order, count);
         let ticket = self.maker.take(&held[..count]);
-        let at = n.0 as usize;
-        self.tickets[at] = ticket.0;
-        self.order[count] = n.0;
-        enter::name_databases(&mut self.named, mask, n);
-        enter::lead_released(&mut self.dependencies, &self.released, mask, n);
-        let sought = search::search(&self.named, &self.dependencies, n);
-        enter::lead_found(&mut self.dependencies, &sought.found, n);
+        self.tickets[slot.0 as usize] = ticket.0;
+        self.order[count] = slot.0;
+        let job = Job { slot };
+        enter::name_databases(&mut self.named, mask, job);
+        enter::lead_released(&mut self.dependencies, &self.released, mask, job);
+        let sought = search::search(&self.named, &self.dependencies, slot);
+        enter::lead_found(&mut self.dependencies, &sought.found, job);
         let added = count::count_all(&sought.found);
         Opened {
             ticket,

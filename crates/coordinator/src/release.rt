@@ -9,8 +9,8 @@ ghost use Rattle.coordinator.specs.Tables.{going_in};
 ghost use Rattle.coordinator.specs.Release.{release};
 
 use crate::Coordinator;
+use crate::steps::Step;
 use mask::Set;
-use numbers::{Database, Slot};
 
 // A step may go: every one that leads into it is confirmed.
 pub(crate) fn may_go(into: u32, confirmed: u32) -> bool
@@ -19,22 +19,20 @@ pub(crate) fn may_go(into: u32, confirmed: u32) -> bool
     into & !confirmed == 0
 }
 
-// Slot j joins the set at database k.
-pub(crate) fn mark(sets: &mut [u32; Coordinator::DATABASES], k: Database, j: Slot)
-    requires { (k.0 < databases) × (j.0 < jobs) }
-    ensures { sets.new ≡ mark sets.old k.0 j.0 }
+// The step's job joins the set at its database.
+pub(crate) fn mark(sets: &mut [u32; Coordinator::DATABASES], step: Step)
+    ensures { sets.new ≡ mark sets.old step.database.0 step.slot.0 }
 {
-    sets[k.0 as usize] |= 1 << j.0;
+    sets[step.database.0 as usize] |= 1 << step.slot.0;
 }
 
-// At database k, slot a goes before each of the later ones.
-fn lead_to(dependencies: &mut [u32; Coordinator::STEPS], k: Database, a: Slot, later: u32)
-    requires { (k.0 < databases) × (a.0 < jobs) }
-    ensures { dependencies.new ≡ lead_to k.0 a.0 later dependencies.old }
+// At the step's database, its job goes before each of the later ones.
+fn lead_to(dependencies: &mut [u32; Coordinator::STEPS], step: Step, later: u32)
+    ensures { dependencies.new ≡ lead_to step.database.0 step.slot.0 later dependencies.old }
 {
-    let first = k.0 as usize * Coordinator::JOBS;
+    let first = step.database.0 as usize * Coordinator::JOBS;
     for b in later.members() {
-        dependencies[first + b as usize] |= 1 << a.0;
+        dependencies[first + b as usize] |= 1 << step.slot.0;
     }
 }
 
@@ -67,14 +65,13 @@ pub(crate) fn going_of(
 }
 
 impl Coordinator {
-    // The step of slot j at database k goes, before each that names the database and is not released.
-    pub(crate) fn release(&mut self, j: Slot, k: Database)
-        requires { (j.0 < jobs) × (k.0 < databases) }
-        ensures { self.new ≡ release self.old j.0 k.0 }
+    // The step goes, before each that names its database and is not released.
+    pub(crate) fn release(&mut self, step: Step)
+        ensures { self.new ≡ release self.old step.slot.0 step.database.0 }
     {
-        mark(&mut self.released, k, j);
-        let at = k.0 as usize;
+        mark(&mut self.released, step);
+        let at = step.database.0 as usize;
         let later = self.named[at].less(self.released[at]);
-        lead_to(&mut self.dependencies, k, j, later);
+        lead_to(&mut self.dependencies, step, later);
     }
 }

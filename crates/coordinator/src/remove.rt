@@ -1,8 +1,8 @@
 // A job leaves the tables: each function takes its slot out of one of them.
-ghost use Rattle.std.specs.Prelude.{◌≡◌, ◌<◌, length};
-ghost use Rattle.coordinator.specs.Limits.{jobs};
+ghost use Rattle.std.specs.Prelude.{◌≡◌, length};
 ghost use Rattle.coordinator.specs.Change.{strike, unled, removed};
 
+use crate::steps::Job;
 use crate::{Coordinator, order};
 use mask::Set;
 use numbers::Slot;
@@ -16,33 +16,31 @@ fn strike(sets: &mut [u32], j: Slot)
     }
 }
 
-// Nobody goes before slot j.
-fn unlead(dependencies: &mut [u32; Coordinator::STEPS], j: Slot)
-    requires { j.0 < jobs }
-    ensures { dependencies.new ≡ unled j.0 dependencies.old }
+// Nobody goes before the job.
+fn unlead(dependencies: &mut [u32; Coordinator::STEPS], job: Job)
+    ensures { dependencies.new ≡ unled job.slot.0 dependencies.old }
 {
-    let b = j.0 as usize;
+    let b = job.slot.0 as usize;
     for k in 0..Coordinator::DATABASES {
         dependencies[k * Coordinator::JOBS + b] = 0;
     }
 }
 
 impl Coordinator {
-    // The job in slot j goes with all its dependencies.
-    pub(crate) fn remove(&mut self, j: Slot)
-        requires { j.0 < jobs }
-        ensures { self.new ≡ removed self.old j.0 }
+    // The job goes with all its dependencies.
+    pub(crate) fn remove(&mut self, job: Job)
+        ensures { self.new ≡ removed self.old job.slot.0 }
     {
-        let at = j.0 as usize;
-        self.tickets[at] = 0;
-        self.held = self.held.without_member(j.0);
-        let place = order::place(&self.order, j);
+        let slot = job.slot;
+        self.tickets[slot.0 as usize] = 0;
+        self.held = self.held.without_member(slot.0);
+        let place = order::place(&self.order, slot);
         self.order = order::moved_up(self.order, place);
-        strike(&mut self.named, j);
-        strike(&mut self.asked, j);
-        strike(&mut self.released, j);
-        strike(&mut self.confirmed, j);
-        strike(&mut self.dependencies, j);
-        unlead(&mut self.dependencies, j);
+        strike(&mut self.named, slot);
+        strike(&mut self.asked, slot);
+        strike(&mut self.released, slot);
+        strike(&mut self.confirmed, slot);
+        strike(&mut self.dependencies, slot);
+        unlead(&mut self.dependencies, job);
     }
 }

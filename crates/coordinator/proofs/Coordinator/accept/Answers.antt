@@ -8,27 +8,21 @@ use Rattle.coordinator.proofs.Coordinator.accept.Goals as goal
 pub held_tickets-held-requires : goal.held_tickets-held-requires
 held_tickets-held-requires c = omega (arith, c.size-count.ensures, room_left _ c.requires.1)
 
-pub bounds-self-at : goal.bounds-self-at
-bounds-self-at c = slot_fits _ c.requires.1 c.ranges.slots.fits _ c.lowest_of-n.ensures
+pub invariant_of-job : goal.invariant_of-job
+invariant_of-job c = record { in_range = slot_fits _ c.requires.1 c.ranges.slots.fits _ c.lowest_of-slot.ensures }
+
+pub bounds-self-slot : goal.bounds-self-slot
+bounds-self-slot c = slot_fits _ c.requires.1 c.ranges.slots.fits _ c.lowest_of-slot.ensures
 
 pub bounds-self-count : goal.bounds-self-count
 bounds-self-count c = omega (arith, c.size-count.ensures, room_left _ c.requires.1)
-
-pub name_databases-requires : goal.name_databases-requires
-name_databases-requires c = slot_fits _ c.requires.1 c.ranges.slots.fits _ c.lowest_of-n.ensures
-
-pub lead_released-requires : goal.lead_released-requires
-lead_released-requires c = slot_fits _ c.requires.1 c.ranges.slots.fits _ c.lowest_of-n.ensures
-
-pub lead_found-requires : goal.lead_found-requires
-lead_found-requires c = slot_fits _ c.requires.1 c.ranges.slots.fits _ c.lowest_of-n.ensures
 
 pub returns : goal.returns
 returns c =
     let s = c.args.self.now in
     let sized : length s.tickets ≡ jobs = search rules in
     opened_at s c.args.mask _ _ _ _ _ _ _ _ _ _ sized (open_slots_are s _ c.requires.0)
-    (slot_fits _ c.requires.1 c.ranges.slots.fits _ c.lowest_of-n.ensures) c.lowest_of-n.ensures
+    (slot_fits _ c.requires.1 c.ranges.slots.fits _ c.lowest_of-slot.ensures) c.lowest_of-slot.ensures
     c.size-count.ensures (c.take-ticket.ensures.0 ∙ ap (λ l. ticket_from l s.maker.next) c.held_tickets-held.ensures) c.take-ticket.ensures.1 c.name_databases.ensures c.lead_released.ensures
     c.search-sought.ensures c.lead_found.ensures c.count_all-added.ensures
 

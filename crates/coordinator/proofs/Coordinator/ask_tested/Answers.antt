@@ -11,10 +11,10 @@ returns-in_err-of_step c =
     let p = err_from_is_err_and c.from_residual.result c.from_residual.ensures.1 in
     rw (p.1, p.2) (ask_refused _ _ _ _ _ (sym (ask_rows r _ _ _ _ c.holds_at-names.ensures c.holds_at-before.ensures) ∙ refused _ _ c.in_err-of_step.ensures))
 
-pub ask_for-requires : goal.ask_for-requires
-ask_for-requires c =
+pub invariant_of-ask_for : goal.invariant_of-ask_for
+invariant_of-ask_for c =
     let r = read c.args.self.now c.args.ticket.0 _ _ c.holders_of-found.ensures c.lowest_of-slot.ensures in
-    step_fits r _ _ _ _ _ (not_refused _ _ c.in_ok-of_step.ensures)
+    record { in_range = step_fits r _ _ _ _ _ (not_refused _ _ c.in_ok-of_step.ensures) }
 
 pub returns : goal.returns
 returns c =

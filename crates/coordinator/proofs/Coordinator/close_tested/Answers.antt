@@ -3,7 +3,7 @@ use Rattle.std.proofs.lemmas.Result.{err_from_is_err_and}
 use Rattle.refusals.proofs.Rows.{not_refused, refused}
 use Rattle.coordinator.specs.Close.{after_closing}
 use Rattle.coordinator.proofs.Step.{read}
-use Rattle.coordinator.proofs.Ending.{close_rows, some_found, close_fits, held_is, closed_is}
+use Rattle.coordinator.proofs.Ending.{close_rows, close_fits, held_is, closed_is}
 use Rattle.coordinator.proofs.Answered.{close_refused}
 use Rattle.coordinator.proofs.Coordinator.close_tested.Goals as goal
 
@@ -13,22 +13,17 @@ returns-in_err-of_close c =
     let p = err_from_is_err_and c.from_residual.result c.from_residual.ensures.1 in
     rw (p.1, p.2) (close_refused _ _ _ _ (sym (close_rows r _ _ _ c.all_confirmed-finished.ensures c.holds-waits.ensures) ∙ refused _ _ c.in_err-of_close.ensures))
 
-pub may_close-requires : goal.may_close-requires
-may_close-requires c =
+pub invariant_of-job : goal.invariant_of-job
+invariant_of-job c =
     let r = read c.args.self.now c.args.ticket.0 _ _ c.holders_of-found.ensures c.lowest_of-slot.ensures in
-    close_fits r _ _ _ (not_refused _ _ c.in_ok-of_close.ensures)
-
-pub close_from-requires : goal.close_from-requires
-close_from-requires c =
-    let r = read c.args.self.now c.args.ticket.0 _ _ c.holders_of-found.ensures c.lowest_of-slot.ensures in
-    some_found r _ _ _ (not_refused _ _ c.in_ok-of_close.ensures)
+    record { in_range = close_fits r _ _ _ (not_refused _ _ c.in_ok-of_close.ensures) }
 
 pub returns-then-may_close : goal.returns-then-may_close
 returns-then-may_close c =
     let s = c.args.self.now in
     let r = read s c.args.ticket.0 _ _ c.holders_of-found.ensures c.lowest_of-slot.ensures in
     let taken = sym (close_rows r _ _ _ c.all_confirmed-finished.ensures c.holds-waits.ensures) ∙ not_refused _ _ c.in_ok-of_close.ensures in
-    ap after_closing c.close_from.ensures ∙ closed_is _ s _ _ taken r.slot (sym c.may_close.ensures ∙ c.if-may_close.true) _ c.lowest_of-slot.ensures
+    ap after_closing c.close_from.ensures ∙ closed_is _ s _ _ taken r.slot (sym c.may_close.ensures ∙ c.if-may_close.true)
 
 pub returns : goal.returns
 returns c =

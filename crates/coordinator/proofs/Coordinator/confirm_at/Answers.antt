@@ -6,7 +6,6 @@ use Rattle.coordinator.specs.Change.{mark, mark_confirmed, mark_released, with_d
 use Rattle.coordinator.specs.Release.{may_go, may_go_at, first_of, release}
 use Rattle.coordinator.specs.Confirm.{confirmed_at, released_one}
 use Rattle.coordinator.specs.Tables.{going_in}
-use Rattle.coordinator.proofs.Going.{first_below}
 use Rattle.coordinator.proofs.Coordinator.confirm_at.Goals as goal
 
 -- those that may go, once the step is confirmed
@@ -17,17 +16,11 @@ free_are s j k free e = sym e
 pub returns-then-free-eq0 : goal.returns-then-free-eq0
 unfolding confirmed_at mark_confirmed
 returns-then-free-eq0 c =
-    let e = free_are c.args.self.now c.args.j.0 c.args.k.0 c.going_of-free.result (rw (← c.mark.ensures) c.going_of-free.ensures) in
+    let e = free_are c.args.self.now c.args.step.slot.0 c.args.step.database.0 c.going_of-free.result (rw (← c.mark.ensures) c.going_of-free.ensures) in
     rw (confirmed_at, e, eq-eqb c.going_of-free.result 0 c.if-free-eq0.true, c.mark.ensures)
-
-pub release-requires : goal.release-requires
-release-requires c = (first_below _ _ _ _ _ _ _ c.going_of-free.ensures c.if-free-eq0.false c.lowest_of-first.ensures, c.requires.1)
-
-pub bounds-self-i : goal.bounds-self-i
-bounds-self-i c = first_below _ _ _ _ _ _ _ c.going_of-free.ensures c.if-free-eq0.false c.lowest_of-first.ensures
 
 pub returns : goal.returns
 unfolding confirmed_at mark_confirmed released_one first_of ticket release mark_released with_dependencies
 returns c =
-    let e = free_are c.args.self.now c.args.j.0 c.args.k.0 c.going_of-free.result (rw (← c.mark.ensures) c.going_of-free.ensures) in
-    rw (confirmed_at, e, ne_eqb c.going_of-free.result 0 c.if-free-eq0.false, e, ← c.lowest_of-first.ensures, c.release.ensures, c.mark.ensures)
+    let e = free_are c.args.self.now c.args.step.slot.0 c.args.step.database.0 c.going_of-free.result (rw (← c.mark.ensures) c.going_of-free.ensures) in
+    rw (confirmed_at, e, ne_eqb c.going_of-free.result 0 c.if-free-eq0.false, e, ← c.lowest_of-slot.ensures, c.release.ensures, c.mark.ensures)

@@ -19,10 +19,10 @@ returns-in_err-of_step c =
     let p = err_from_is_err_and c.from_residual.result c.from_residual.ensures.1 in
     rw (p.1, p.2) (confirm_refused _ _ _ _ _ (sym (confirm_rows r _ _ _ _ c.holds_at-names.ensures q) ∙ refused _ _ c.in_err-of_step.ensures))
 
-pub confirm_at-requires : goal.confirm_at-requires
-confirm_at-requires c =
+pub invariant_of-confirm_at : goal.invariant_of-confirm_at
+invariant_of-confirm_at c =
     let r = read c.args.self.now c.args.ticket.0 _ _ c.holders_of-found.ensures c.lowest_of-slot.ensures in
-    step_fits r _ _ _ _ _ (not_refused _ _ c.in_ok-of_step.ensures)
+    record { in_range = step_fits r _ _ _ _ _ (not_refused _ _ c.in_ok-of_step.ensures) }
 
 pub returns : goal.returns
 returns c =

@@ -11,6 +11,6 @@ use Rattle.coordinator.proofs.may_close.may_close.Goals as goal
 pub returns : goal.returns
 unfolding may_close_in
 returns c =
-    all_from_yields_List (λ k. eqb (entry c.args.dependencies.now (k * jobs + c.args.j.0)) 0) _ _ _ c.all.ensures.ran
+    all_from_yields_List (λ k. eqb (entry c.args.dependencies.now (k * jobs + c.args.job.slot.0)) 0) _ _ _ c.all.ensures.ran
     (YieldsList-from_range 0 databases databases refl refl) (λ x b q k. search (rules, tests))
     ∙ all_below _ databases

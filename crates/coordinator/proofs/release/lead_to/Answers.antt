@@ -9,7 +9,7 @@ loop-b-init c = rw (c.into_iter-b-iterator.ensures.into_iter_gives, c.members-b-
 
 pub loop-b-preserved : goal.loop-b-preserved
 loop-b-preserved c =
-    left_turn _ jobs _ _ _ _ _ c.in-Some.ensures.steps.0 c.loop-b.invariant _ _ c.in-Some.ensures.steps.1 (rw (one_shl 32 _ c.requires.1))
+    left_turn _ jobs _ _ _ _ _ c.in-Some.ensures.steps.0 c.loop-b.invariant _ _ c.in-Some.ensures.steps.1 (rw (one_shl 32 _ c.args.step.in_range.0))
 
 pub returns : goal.returns
 unfolding lead_to lead
