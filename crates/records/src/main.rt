@@ -7,6 +7,7 @@ use std::io;
 use std::io::{Read, Write};
 
 // Room for 16,385 lines of 47 bytes: a line more than a piece has records, as `lines::play` asks.
+// A function, since a proof that sees the array itself runs out of stack counting its bytes.
 fn room() -> [u8; 770095]
     ensures { 770095 ≡ length result }
 {
@@ -14,6 +15,7 @@ fn room() -> [u8; 770095]
 }
 
 // Reads until the piece is full, the input ends or a read fails. Returns how many bytes that put at its start, and the failure.
+// By hand, since std's `read_exact` does not say how many it read where the input ends or fails.
 fn read_full<R: Read>(input: &mut R, piece: &mut [u8]) -> (usize, io::Result<()>)
     ensures { result.0 ≤ length piece.new }
 {
