@@ -72,7 +72,7 @@ fn call(state: &mut [u8], asked: Request, answer: &mut [u8]) -> u8
     }
     let mut tested = Tested::new(decode(state));
     let row = tested.play(Ok(asked));
-    put_row(row.numbers, &row.tickets, answer, 0);
+    put_row(&row, answer, 0);
     encode(tested.state, state);
     0
 }

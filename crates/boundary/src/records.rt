@@ -3,6 +3,7 @@ ghost use Rattle.std.specs.Prelude.{◌≡◌, ◌*◌, ◌/◌, length};
 ghost use Rattle.boundary.specs.Row.{row_size};
 ghost use Rattle.boundary.specs.Records.{state_after, rows};
 
+use crate::ROW_SIZE;
 use crate::row::put_row;
 use coordinator::Coordinator;
 use record::request::Request;
@@ -17,7 +18,7 @@ pub(crate) fn play_all(start: Coordinator, records: &[u8], out: &mut [u8]) -> Co
     let (whole, _) = records.as_chunks::<4>();
     for (i, bytes) in whole.iter().enumerate() {
         let answer = tested.play(Request::try_from(*bytes));
-        put_row(answer.numbers, &answer.tickets, out, 80 * i);
+        put_row(&answer, out, ROW_SIZE * i);
     }
     tested.state
 }

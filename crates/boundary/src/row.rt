@@ -1,12 +1,11 @@
 // One answer as 80 bytes.
 ghost use Rattle.std.specs.Prelude.{◌≡◌, ◌+◌, ◌≤◌, length};
-ghost use Rattle.coordinator.specs.Limits.{jobs};
 ghost use Rattle.layout.specs.Put.{put};
 ghost use Rattle.boundary.specs.Row.{row_size, number_bytes, row_of};
 
 use crate::arrays::put_all;
 use crate::bytes::{Number, low_half};
-use record::answer::Numbers;
+use record::answer::{Answer, Numbers};
 
 fn put_numbers(n: Numbers, out: &mut [u8], at: usize)
     requires { at + 10 ≤ length out.old }
@@ -20,11 +19,11 @@ fn put_numbers(n: Numbers, out: &mut [u8], at: usize)
     low_half(n.moves).put(out, at + 8);
 }
 
-pub(crate) fn put_row(n: Numbers, tickets: &[u16], out: &mut [u8], at: usize)
-    requires { (length tickets.now ≡ jobs) × (at + row_size ≤ length out.old) }
-    ensures { out.new ≡ put out.old at (row_of n tickets.now) }
+pub(crate) fn put_row(answer: &Answer, out: &mut [u8], at: usize)
+    requires { at + row_size ≤ length out.old }
+    ensures { out.new ≡ put out.old at (row_of answer.now.numbers answer.now.tickets) }
 {
-    put_numbers(n, out, at);
+    put_numbers(answer.numbers, out, at);
     out[at + 10..at + 16].fill(0);
-    put_all(tickets, out, at + 16);
+    put_all(&answer.tickets, out, at + 16);
 }

@@ -16,11 +16,11 @@ module _ (s : Coordinator) (index : ℕ) (b o : List ℕ) where
   unfolding playing
   played h r = rw (playing, lt-ltb index (2 ^ 63) h, lt-ltb (length b / 4) (length o / longest) r)
 
-  pub no_room : index < 2 ^ 63 → length o / longest ≤ length b / 4 → nothing s index o ≡ playing s index b o
+  pub no_room : index < 2 ^ 63 → length o / longest ≤ length b / 4 → nothing s o ≡ playing s index b o
   unfolding playing
   no_room h r = rw (playing, lt-ltb index (2 ^ 63) h, le-ltb (length b / 4) (length o / longest) r)
 
-  pub no_index : 2 ^ 63 ≤ index → nothing s index o ≡ playing s index b o
+  pub no_index : 2 ^ 63 ≤ index → nothing s o ≡ playing s index b o
   unfolding playing
   no_index h = rw (playing, le-ltb index (2 ^ 63) h)
 

@@ -3,6 +3,8 @@ ghost use Rattle.std.specs.Prelude.{◌≡◌, ◌+◌, ◌^◌, ◌≤◌, ◌<
 ghost use Rattle.layout.specs.Put.{put};
 ghost use Rattle.lines.specs.Line.{decimal_in, word, line, longest};
 
+use crate::said::Said;
+
 // Writes n, of at most k digits, at index at, and returns the index after it.
 fn digits(n: u64, k: usize, out: &mut [u8], at: usize) -> usize
     requires { (0 < k) × (n < 10 ^ k) × (at + k ≤ length out.old) }
@@ -28,19 +30,12 @@ fn put_word(n: u64, k: usize, end: u8, out: &mut [u8], at: usize) -> usize
 }
 
 // Writes a line, and returns the index after it.
-pub(crate) fn put_line(
-    index: u64,
-    refusal: u8,
-    first: u32,
-    second: u32,
-    out: &mut [u8],
-    at: usize,
-) -> usize
+pub(crate) fn put_line(index: u64, said: Said, out: &mut [u8], at: usize) -> usize
     requires { at + longest ≤ length out.old }
-    ensures { (result ≡ at + length (line index refusal first second)) × (result ≤ at + longest) × (out.new ≡ put out.old at (line index refusal first second)) }
+    ensures { (result ≡ at + length (line index said.refusal said.first said.second)) × (result ≤ at + longest) × (out.new ≡ put out.old at (line index said.refusal said.first said.second)) }
 {
     let b = put_word(index, 20, b' ', out, at);
-    let c = put_word(refusal as u64, 3, b' ', out, b);
-    let d = put_word(first as u64, 10, b' ', out, c);
-    put_word(second as u64, 10, b'\n', out, d)
+    let c = put_word(u64::from(said.refusal), 3, b' ', out, b);
+    let d = put_word(u64::from(said.first), 10, b' ', out, c);
+    put_word(u64::from(said.second), 10, b'\n', out, d)
 }
