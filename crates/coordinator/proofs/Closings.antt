@@ -17,7 +17,7 @@ use Rattle.loops.proofs.Tests.{and_left, and_right, or_cases, or_right}
 use Rattle.mask.specs.Member.{holds, excluding, lowest, size}
 use Rattle.mask.specs.Members.{gather}
 use Rattle.mask.specs.Lowest.{Lowest}
-use Rattle.mask.proofs.Digits.{digit_pow_same, digit_pow_other}
+use Rattle.std.proofs.lemmas.Nat.Bits.{bit_at-pow_same, bit_at-pow_other}
 use Rattle.mask.proofs.Gather.{gathered_lt, holds_gather}
 use Rattle.mask.proofs.Holds.{holds_or, holds_excluding, holds_below}
 use Rattle.mask.proofs.Lowest.{trailing_lowest, lowest_holds, lowest_unique}
@@ -58,7 +58,7 @@ pub record Going (s₀ : Coordinator) (first : ℕ) (s : Coordinator) (tickets :
 
 lowest_one : (n k : ℕ) → k < n → lowest n (2 ^ k) ≡ k
 lowest_one n k l =
-    lowest_unique n (2 ^ k) k (pow-lt l) (record { within = l; on = digit_pow_same k; below = λ j h. digit_pow_other k j (λ e. omega arith) })
+    lowest_unique n (2 ^ k) k (pow-lt l) (record { within = l; on = bit_at-pow_same k; below = λ j h. bit_at-pow_other k j (λ e. omega arith) })
 
 pub going_start : (s : Coordinator) (j m : ℕ) → j < jobs → m ≡ 2 ^ j → Going s j s no_tickets 0 m
 unfolding closing
