@@ -12,6 +12,7 @@ use refusals::Refusal;
 
 impl Coordinator {
     // Marks the step asked, and releases it if it may go.
+    #[tactic(auto, unfolding(crate::specs::Ask::asked_for, crate::specs::Change::mark_asked, crate::specs::Release::may_go, crate::specs::Views::into))]
     fn ask_for(&mut self, step: Step) -> Asked
         ensures { ◌≡◌ {A = After Asked} (record { answer = Ok result; state = self.new }) (asked_for self.old step.slot.0 step.database.0) }
     {

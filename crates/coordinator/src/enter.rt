@@ -23,6 +23,7 @@ pub(crate) fn name_databases(named: &mut [u32; Coordinator::DATABASES], mask: u1
 }
 
 // Each of the set goes before the step.
+#[tactic(auto, unfolding(crate::specs::Change::lead))]
 fn lead(dependencies: &mut [u32; Coordinator::STEPS], set: u32, step: Step)
     ensures { dependencies.new ≡ lead step.database.0 set step.slot.0 dependencies.old }
 {
@@ -46,6 +47,7 @@ pub(crate) fn lead_released(
 }
 
 // What was found goes before the job.
+#[tactic(auto, using(loops::proofs::Turns::over_none, loops::proofs::Turns::over_more))]
 pub(crate) fn lead_found(
     dependencies: &mut [u32; Coordinator::STEPS],
     found: &[u32; Coordinator::DATABASES],

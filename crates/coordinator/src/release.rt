@@ -66,6 +66,7 @@ pub(crate) fn going_of(
 
 impl Coordinator {
     // The step goes, before each that names its database and is not released.
+    #[tactic(auto, unfolding(crate::specs::Release::release, crate::specs::Change::mark_released, crate::specs::Change::with_dependencies))]
     pub(crate) fn release(&mut self, step: Step)
         ensures { self.new ≡ release self.old step.slot.0 step.database.0 }
     {

@@ -1,9 +1,6 @@
-use Rattle.mask.proofs.Walking.{left_start, left_turn, left_done}
+use Rattle.mask.proofs.Walking.{left_turn, left_done}
 use Rattle.coordinator.specs.Limits.{databases}
 use Rattle.coordinator.proofs.enter.name_databases.Goals as goal
-
-pub loop-k-init : goal.loop-k-init
-loop-k-init c = rw (c.into_iter-k-iterator.ensures.into_iter_gives, c.members-k-items.ensures) (left_start _ _ _ _)
 
 pub loop-k-preserved : goal.loop-k-preserved
 loop-k-preserved c =

@@ -1,11 +1,8 @@
 use Rattle.mask.proofs.Words.{one_shl}
-use Rattle.mask.proofs.Walking.{left_start, left_turn, left_done}
+use Rattle.mask.proofs.Walking.{left_turn, left_done}
 use Rattle.coordinator.specs.Limits.{jobs}
 use Rattle.coordinator.specs.Change.{lead, lead_to}
 use Rattle.coordinator.proofs.release.lead_to.Goals as goal
-
-pub loop-b-init : goal.loop-b-init
-loop-b-init c = rw (c.into_iter-b-iterator.ensures.into_iter_gives, c.members-b-items.ensures) (left_start _ _ _ _)
 
 pub loop-b-preserved : goal.loop-b-preserved
 loop-b-preserved c =
