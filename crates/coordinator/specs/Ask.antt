@@ -22,7 +22,7 @@ asked_for s j k =
 
 -- refused, or done
 abbrev pub ask_answered : Option Refusal → Coordinator → ℕ → ℕ → After Asked
-ask_answered refusal s t k = elim refusal [ None ↦ asked_for s (holder s t) k | Some n ↦ record { answer = Err n; state = s } ]
+ask_answered refusal s t k = elim refusal [ None ↦ asked_for s (holder s t) k | Some r ↦ record { answer = Err r; state = s } ]
 
 unfoldable pub after_ask : Coordinator → ℕ → ℕ → After Asked
 after_ask s t k = ask_answered (ask_refusal s t k) s t k

@@ -47,7 +47,7 @@ closed_at s j =
 
 -- refused, or done
 abbrev pub close_answered : Option Refusal → Coordinator → ℕ → After (Option Closed)
-close_answered refusal s t = elim refusal [ None ↦ closed_at s (holder s t) | Some n ↦ record { answer = Err n; state = s } ]
+close_answered refusal s t = elim refusal [ None ↦ closed_at s (holder s t) | Some r ↦ record { answer = Err r; state = s } ]
 
 unfoldable pub after_close : Coordinator → ℕ → After (Option Closed)
 after_close s t = close_answered (close_refusal s t) s t

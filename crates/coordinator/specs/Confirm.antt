@@ -27,7 +27,7 @@ confirmed_at s j k =
 
 -- refused, or done
 abbrev pub confirm_answered : Option Refusal → Coordinator → ℕ → ℕ → After (Option Ticket)
-confirm_answered refusal s t k = elim refusal [ None ↦ confirmed_at s (holder s t) k | Some n ↦ record { answer = Err n; state = s } ]
+confirm_answered refusal s t k = elim refusal [ None ↦ confirmed_at s (holder s t) k | Some r ↦ record { answer = Err r; state = s } ]
 
 unfoldable pub after_confirm : Coordinator → ℕ → ℕ → After (Option Ticket)
 after_confirm s t k = confirm_answered (confirm_refusal s t k) s t k

@@ -58,7 +58,7 @@ accepted s n mask =
 
 -- refused, or done
 abbrev pub open_answered : Option Refusal → Coordinator → ℕ → After Opened
-open_answered refusal s mask = elim refusal [ None ↦ accepted s (free_slot s) mask | Some n ↦ record { answer = Err n; state = s } ]
+open_answered refusal s mask = elim refusal [ None ↦ accepted s (free_slot s) mask | Some r ↦ record { answer = Err r; state = s } ]
 
 unfoldable pub after_open : Coordinator → ℕ → After Opened
 after_open s mask = open_answered (open_refusal s mask) s mask

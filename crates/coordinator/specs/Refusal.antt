@@ -3,7 +3,7 @@ use Rattle.std.specs.Prelude.{ℕ, Bool, not, ◌||◌}
 use Rattle.std.specs.Prelude.{Option}
 use Rattle.loops.specs.Loop.{every}
 use Rattle.refusals.specs.declared.refusal.Refusal.TheVariants.{AskedBefore, Settled}
-pub use Rattle.refusals.specs.Refusal.{Row, number_of, slot_rows, step_rows, job_rows}
+pub use Rattle.refusals.specs.Refusal.{Row, slot_rows, step_rows, job_rows}
 unfoldable pub use Rattle.refusals.specs.Refusal.{first_row, slot_refusal, step_refusal, job_refusal}
 use Rattle.coordinator.specs.declared.Coordinator.{Coordinator}
 use Rattle.coordinator.specs.Limits.{databases}

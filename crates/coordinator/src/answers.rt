@@ -4,7 +4,7 @@ use numbers::Ticket;
 use refusals::Refusal;
 
 // The job's ticket, how many dependencies the opening search added, and its moves.
-#[derive(Clone, Copy)]
+#[derive(Clone, Copy, Debug, PartialEq, Eq)]
 pub struct Opened {
     pub ticket: Ticket,
     pub added: u32,
@@ -12,14 +12,14 @@ pub struct Opened {
 }
 
 // The step goes now, or waits.
-#[derive(Clone, Copy)]
+#[derive(Clone, Copy, Debug, PartialEq, Eq)]
 pub enum Asked {
     Released,
     Held,
 }
 
 // How many jobs were closed, and their tickets in order, with zeros after them.
-#[derive(Clone, Copy)]
+#[derive(Clone, Copy, Debug, PartialEq, Eq)]
 pub struct Closed {
     pub count: u32,
     pub tickets: [u16; Coordinator::JOBS],

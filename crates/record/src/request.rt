@@ -5,7 +5,7 @@ ghost use Rattle.record.specs.Request.{requested, read};
 use numbers::{Database, Ticket};
 
 // A call as a record asks for it.
-#[derive(Clone, Copy)]
+#[derive(Clone, Copy, Debug, PartialEq, Eq)]
 pub enum Request {
     // A job at the databases of a mask.
     Open(u16),
@@ -15,7 +15,7 @@ pub enum Request {
 }
 
 // The record's kind is no call: document 01 refuses it by 11.
-#[derive(Clone, Copy)]
+#[derive(Clone, Copy, Debug, PartialEq, Eq)]
 pub struct UnknownKind;
 
 impl From<UnknownKind> for u8 {

@@ -4,7 +4,6 @@ use Rattle.std.specs.Prelude.{Option, None, Some}
 use Rattle.tables.specs.Limits.{jobs, databases}
 use Rattle.refusals.specs.declared.refusal.Refusal.{Refusal}
 use Rattle.refusals.specs.declared.refusal.Refusal.TheVariants.{NamesNone, Full, NoJob, NoDatabase, NotNamed, Unfinished, CloseHeld, Unsound}
-use Rattle.refusals.specs.Number.{number}
 
 -- when a row applies, and what it refuses with
 pub record Row : Type 0 where
@@ -16,26 +15,21 @@ unfoldable pub first_row : List Row → Option Refusal
 first_row [] = None
 first_row (r ∷ rows) = elim r.applies [ true ↦ Some r.refusal | false ↦ first_row rows ]
 
--- the number that is answered: 0 where no row applies
-abbrev pub number_of : Option Refusal → ℕ
-number_of None = 0
-number_of (Some r) = number r
-
 -- the rows of an opening: whether the state is sound, the mask, how many jobs are open
 abbrev pub slot_rows : Bool → ℕ → ℕ → List Row
-slot_rows isSound mask count =
-    record { applies = not isSound; refusal = Unsound }
+slot_rows is_sound mask count =
+    record { applies = not is_sound; refusal = Unsound }
     ∷ record { applies = eqb mask 0; refusal = NamesNone }
     ∷ record { applies = eqb count jobs; refusal = Full }
     ∷ []
 
 unfoldable pub slot_refusal : Bool → ℕ → ℕ → Option Refusal
-slot_refusal isSound mask count = first_row (slot_rows isSound mask count)
+slot_refusal is_sound mask count = first_row (slot_rows is_sound mask count)
 
 -- the rows of ask and confirm: whether the state is sound, the slots that hold the ticket, whether the job names database k; the last row is the call's own
 abbrev pub step_rows : Bool → ℕ → ℕ → Bool → Bool → Refusal → List Row
-step_rows isSound found k names applies own =
-    record { applies = not isSound; refusal = Unsound }
+step_rows is_sound found k names applies own =
+    record { applies = not is_sound; refusal = Unsound }
     ∷ record { applies = eqb found 0; refusal = NoJob }
     ∷ record { applies = not (ltb k databases); refusal = NoDatabase }
     ∷ record { applies = not names; refusal = NotNamed }
@@ -43,16 +37,16 @@ step_rows isSound found k names applies own =
     ∷ []
 
 unfoldable pub step_refusal : Bool → ℕ → ℕ → Bool → Bool → Refusal → Option Refusal
-step_refusal isSound found k names applies own = first_row (step_rows isSound found k names applies own)
+step_refusal is_sound found k names applies own = first_row (step_rows is_sound found k names applies own)
 
 -- the rows of a close: whether the state is sound, the slots that hold the ticket, whether every step of the job is confirmed, whether its close is held
 abbrev pub job_rows : Bool → ℕ → Bool → Bool → List Row
-job_rows isSound found isConfirmed is_held =
-    record { applies = not isSound; refusal = Unsound }
+job_rows is_sound found is_confirmed is_held =
+    record { applies = not is_sound; refusal = Unsound }
     ∷ record { applies = eqb found 0; refusal = NoJob }
-    ∷ record { applies = not isConfirmed; refusal = Unfinished }
+    ∷ record { applies = not is_confirmed; refusal = Unfinished }
     ∷ record { applies = is_held; refusal = CloseHeld }
     ∷ []
 
 unfoldable pub job_refusal : Bool → ℕ → Bool → Bool → Option Refusal
-job_refusal isSound found isConfirmed is_held = first_row (job_rows isSound found isConfirmed is_held)
+job_refusal is_sound found is_confirmed is_held = first_row (job_rows is_sound found is_confirmed is_held)
