@@ -90,6 +90,11 @@ gather_turn d i x y p q = rw (p, q, add-one)
 pub gather_done : (d : ℕ → ℕ) (n i x : ℕ) → i ≤ n → n ≤ i → x ≡ gather i d → x ≡ gather n d
 gather_done d n i x a b e = e ∙ ap (λ (k : ℕ). gather k d) (le_antisymm a b)
 
+-- a turn of the code, at w digits, that asks a test and has its answer b as the digit x
+pub gather_asked : (p : ℕ → Bool) (w i m x : ℕ) (b : Bool) → m ≡ gather i (λ j. tally (p j)) → x ≡ tally b → b ≡ p i → i < w
+    → bit_or m (x * 2 ^ i % 2 ^ w) ≡ gather (i + 1) (λ j. tally (p j))
+gather_asked p w i m x b e q h l = gather_turn (λ j. tally (p j)) i m _ e (rw (q, h) (leaf_is w (tally (p i)) i (tally_two (p i)) l))
+
 -- gathered while the members of a set are walked: those of them that pass the test
 pub gather_among : (n m : ℕ) (p : ℕ → Bool) → over_members n m (λ j x. bit_or x (tally (p j) * 2 ^ j)) 0 ≡ gather n (λ j. tally (holds m j && p j))
 unfolding over_members gather
