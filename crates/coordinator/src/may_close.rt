@@ -1,6 +1,5 @@
 // When a job may close: its steps are confirmed, and nobody goes before it any more.
-ghost use Rattle.std.specs.Prelude.{not, ◌&&◌, ◌≡◌, ℕ, ◌*◌, ◌^◌, ◌<◌};
-ghost use Rattle.loops.specs.Sum.{tally};
+ghost use Rattle.std.specs.Prelude.{not, ◌&&◌, ◌≡◌, ℕ, ◌<◌};
 ghost use Rattle.mask.specs.Member.{holds};
 ghost use Rattle.coordinator.specs.Limits.{jobs};
 ghost use Rattle.coordinator.specs.Tables.{may_close_in, may_close_now_in, all_confirmed_in};
@@ -40,25 +39,13 @@ pub(crate) fn may_close(dependencies: &[u32; Coordinator::STEPS], j: Slot) -> bo
     (0..Coordinator::DATABASES).all(|k| dependencies[k * Coordinator::JOBS + b] == 0)
 }
 
-// Slot j as a set, where it may close.
-fn free(dependencies: &[u32; Coordinator::STEPS], j: Slot) -> u32
-    requires { j.0 < jobs }
-    ensures { result ≡ tally (may_close_in dependencies.now j.0) * 2 ^ j.0 }
-{
-    if may_close(dependencies, j) {
-        1 << j.0
-    } else {
-        0
-    }
-}
-
-// The held closes that may go. Only held slots are looked at: mostly there are few.
+// The held closes that may go. Only held slots are looked at, and not all as by mask::gathered: mostly there are few.
 pub(crate) fn may_close_now(dependencies: &[u32; Coordinator::STEPS], held: u32) -> u32
     ensures { result ≡ may_close_now_in dependencies.now held }
 {
     let mut found = 0u32;
     for j in held.members() {
-        found |= free(dependencies, Slot(j));
+        found |= u32::from(may_close(dependencies, Slot(j))) << j;
     }
     found
 }

@@ -16,7 +16,7 @@ fn strike(sets: &mut [u32], j: Slot)
     }
 }
 
-// Nobody goes before slot j.
+// Nobody goes before slot j. By number: after chunks_exact_mut a proof knows no element of the table (tried).
 fn unlead(dependencies: &mut [u32; Coordinator::STEPS], j: Slot)
     requires { j.0 < jobs }
     ensures { dependencies.new ≡ unled j.0 dependencies.old }
