@@ -5,16 +5,14 @@ use mathlib.Core.List.{List}
 use Prim.Native.Nat.{ℕ, ◌+◌, ◌*◌, ◌^◌, ◌<◌}
 use native.Mathlib.Omega.{arith}
 use lib.Bits.{bit_and, and_lt}
-use Rattle.std.proofs.Common.{take, drop, length, get_or-take, get_or-drop, length-take-le, length-drop}
 use Rattle.loops.specs.Sum.{tally}
-use Rattle.loops.proofs.Turns.{over_same}
 use Rattle.mask.specs.Member.{holds, less, within}
 use Rattle.mask.specs.Members.{gather}
 use Rattle.mask.proofs.Change.{less_lt}
 use Rattle.mask.proofs.Holds.{holds_and, holds_less}
 use Rattle.mask.proofs.Gather.{gathered_lt, holds_gather}
 use Rattle.mask.proofs.Equal.{same_members}
-use Rattle.coordinator.specs.Limits.{jobs, databases, steps}
+use Rattle.coordinator.specs.Limits.{jobs}
 use Rattle.coordinator.specs.Views.{entry}
 use Rattle.coordinator.specs.Tables.{going_in}
 
@@ -28,16 +26,8 @@ less_gathered n a b p ha hb =
     (gathered_lt q n)
     (λ j l. holds_and (less n a b) g j ∙ rw (holds_less n a b j hb l, holds_gather p n j l) (sym (holds_gather q n j l)))
 
--- the rows of database k, read out of the table
-pub rows_long : (d : List ℕ) (k n : ℕ) → n ≡ jobs → length d ≡ steps → k < databases → length (take n (drop (k * jobs) d)) ≡ jobs
-rows_long d k n e sized l = rw e (length-take-le jobs (drop (k * jobs) d) (omega (arith, length-drop (k * jobs) d, sized)))
-
-rows_gathered : (d : List ℕ) (k confirmed : ℕ) → gather jobs (λ j. tally (within jobs (entry (take jobs (drop (k * jobs) d)) j) confirmed)) ≡ gather jobs (λ j. tally (within jobs (entry d (k * jobs + j)) confirmed))
-unfolding gather
-rows_gathered d k confirmed = over_same jobs _ _ 0 (λ j x l. rw (get_or-take jobs (drop (k * jobs) d) j 0 l, get_or-drop (k * jobs) d j 0))
-
-pub going_is : (d : List ℕ) (k n asked released confirmed waiting free : ℕ) → n ≡ jobs → asked < 2 ^ jobs → released < 2 ^ jobs → waiting ≡ less jobs asked released
-    → free ≡ gather jobs (λ j. tally (within jobs (entry (take n (drop (k * jobs) d)) j) confirmed)) → bit_and waiting free ≡ going_in d k asked released confirmed
+pub going_is : (d : List ℕ) (k asked released confirmed waiting free : ℕ) → asked < 2 ^ jobs → released < 2 ^ jobs → waiting ≡ less jobs asked released
+    → free ≡ gather jobs (λ j. tally (within jobs (entry d (k * jobs + j)) confirmed)) → bit_and waiting free ≡ going_in d k asked released confirmed
 unfolding going_in
-going_is d k n asked released confirmed waiting free m a r e f =
-    rw (e, f, m, rows_gathered d k confirmed) (less_gathered jobs asked released (λ j. within jobs (entry d (k * jobs + j)) confirmed) a r)
+going_is d k asked released confirmed waiting free a r e f =
+    rw (e, f) (less_gathered jobs asked released (λ j. within jobs (entry d (k * jobs + j)) confirmed) a r)

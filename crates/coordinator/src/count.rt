@@ -12,9 +12,5 @@ use mask::Set;
 pub(crate) fn count_all(sets: &[u32; Coordinator::DATABASES]) -> u32
     ensures { result ≡ sum databases (λ k. size jobs (entry sets.now k)) }
 {
-    let mut n = 0u32;
-    for set in sets {
-        n += set.size();
-    }
-    n
+    sets.iter().map(|set| set.size()).sum()
 }

@@ -1,6 +1,5 @@
 // When a job may close: its steps are confirmed, and nobody goes before it any more.
-ghost use Rattle.std.specs.Prelude.{not, ◌&&◌, ◌≡◌, ℕ, ◌*◌, ◌^◌};
-ghost use Rattle.loops.specs.Sum.{tally};
+ghost use Rattle.std.specs.Prelude.{not, ◌&&◌, ◌≡◌, ℕ};
 ghost use Rattle.mask.specs.Member.{holds};
 ghost use Rattle.coordinator.specs.Tables.{may_close_in, may_close_now_in, all_confirmed_in};
 
@@ -39,24 +38,14 @@ pub(crate) fn may_close(dependencies: &[u32; Coordinator::STEPS], job: Job) -> b
     (0..Coordinator::DATABASES).all(|k| dependencies[k * Coordinator::JOBS + b] == 0)
 }
 
-// The job's slot as a set, where it may close.
-fn free(dependencies: &[u32; Coordinator::STEPS], job: Job) -> u32
-    ensures { result ≡ tally (may_close_in dependencies.now job.slot.0) * 2 ^ job.slot.0 }
-{
-    if may_close(dependencies, job) {
-        1 << job.slot.0
-    } else {
-        0
-    }
-}
-
-// The held closes that may go. Only held slots are looked at: mostly there are few.
+// The held closes that may go. Only held slots are looked at, and not all as by mask::gathered: mostly there are few.
 pub(crate) fn may_close_now(dependencies: &[u32; Coordinator::STEPS], held: u32) -> u32
     ensures { result ≡ may_close_now_in dependencies.now held }
 {
     let mut found = 0u32;
     for j in held.members() {
-        found |= free(dependencies, Job { slot: Slot(j) });
+        let job = Job { slot: Slot(j) };
+        found |= u32::from(may_close(dependencies, job)) << j;
     }
     found
 }

@@ -11,23 +11,12 @@ use crate::Coordinator;
 use mask::Set;
 use numbers::Slot;
 
-// Place i as a set, where slot j stands there.
-fn standing(slot: u8, j: u8, i: usize) -> u32
-    requires { i < jobs }
-    ensures { result ≡ tally (eqb slot j) * 2 ^ i }
-{
-    if slot == j { 1 << i } else { 0 }
-}
-
 // Where slot j stands. No branch: all places are compared, and the lowest of those found is taken.
 pub(crate) fn place(order: &[u8; Coordinator::JOBS], j: Slot) -> usize
     ensures { result ≡ lowest jobs (gather jobs (λ i. tally (eqb (entry order.now i) j.0))) }
 {
-    let mut m = 0u32;
-    for (i, slot) in order.iter().enumerate() {
-        m |= standing(*slot, j.0, i);
-    }
-    m.lowest() as usize
+    let places = mask::gathered(|i| order[i] == j.0);
+    places.lowest() as usize
 }
 
 // What comes to stand at place i when those after p move up.

@@ -1,9 +1,7 @@
 // What ask and confirm share: when a step may go, which of those that wait may, and what a release does to the tables.
-ghost use Rattle.std.specs.Prelude.{◌≡◌, ℕ, ◌+◌, ◌*◌, ◌^◌, ◌<◌};
-ghost use Rattle.loops.specs.Sum.{tally};
+ghost use Rattle.std.specs.Prelude.{◌≡◌, ◌<◌};
 ghost use Rattle.mask.specs.Member.{within};
 ghost use Rattle.coordinator.specs.Limits.{jobs, databases};
-ghost use Rattle.coordinator.specs.Views.{entry};
 ghost use Rattle.coordinator.specs.Change.{mark, lead_to};
 ghost use Rattle.coordinator.specs.Tables.{going_in};
 ghost use Rattle.coordinator.specs.Release.{release};
@@ -36,14 +34,6 @@ fn lead_to(dependencies: &mut [u32; Coordinator::STEPS], step: Step, later: u32)
     }
 }
 
-// Slot j as a set where its step may go, and no slot otherwise.
-fn going(into: u32, confirmed: u32, j: usize) -> u32
-    requires { j < jobs }
-    ensures { result ≡ tally (within jobs into confirmed) * 2 ^ j }
-{
-    if may_go(into, confirmed) { 1 << j } else { 0 }
-}
-
 // The asked and unreleased steps at database k that may go. All rows are read without a branch: that is faster than to pick those that wait.
 pub(crate) fn going_of(
     dependencies: &[u32; Coordinator::STEPS],
@@ -56,11 +46,7 @@ pub(crate) fn going_of(
     ensures { result ≡ going_in dependencies.now k asked released confirmed }
 {
     let first = k * Coordinator::JOBS;
-    let rows = &dependencies[first..first + Coordinator::JOBS];
-    let mut free = 0u32;
-    for (j, into) in rows.iter().enumerate() {
-        free |= going(*into, confirmed, j);
-    }
+    let free = mask::gathered(|j| may_go(dependencies[first + j], confirmed));
     asked.less(released) & free
 }
 

@@ -16,7 +16,7 @@ fn strike(sets: &mut [u32], j: Slot)
     }
 }
 
-// Nobody goes before the job.
+// Nobody goes before the job. By number: after chunks_exact_mut a proof knows no element of the table (tried).
 fn unlead(dependencies: &mut [u32; Coordinator::STEPS], job: Job)
     ensures { dependencies.new ≡ unled job.slot.0 dependencies.old }
 {

@@ -1,5 +1,6 @@
 -- A set gathered from its digits, one a turn. Assumes nothing.
 use Rattle.std.proofs.Common.{◌≡◌, ℕ, zero, suc, ◌+◌, ◌*◌, ◌%◌, ◌^◌, ◌<◌, ◌≤◌, max, Bool, true, false, ◌&&◌, eqb, ◌⊎◌, ◌↔◌, sym, refl, ap, ◌∙◌, inl, inr, le_refl, lt_of_lt_of_le, not-suc-le-zero, mod-eq_of_lt, le_antisymm, one-mul, pow-suc, zero-mul, add-one, arith, pow_pos, pow_mono}
+use mir.Val.{bool_byte}
 use lib.Bits.{bit_or, or_lt, or_zero_r}
 use Rattle.loops.specs.Loop.{over, guard}
 use Rattle.loops.specs.Sum.{tally}
@@ -86,6 +87,19 @@ gather_turn d i x y p q = rw (p, q, add-one)
 
 pub gather_done : (d : ℕ → ℕ) (n i x : ℕ) → i ≤ n → n ≤ i → x ≡ gather i d → x ≡ gather n d
 gather_done d n i x a b e = e ∙ ap (λ (k : ℕ). gather k d) (le_antisymm a b)
+
+-- the answer b as the code has it, as the digit x, and put in its place at w digits
+answer_is : (b : Bool) → bool_byte b ≡ tally b
+answer_is true = refl
+answer_is false = refl
+
+pub answer_shl : (w i x : ℕ) (b : Bool) → x ≡ bool_byte b → i < w → x * 2 ^ i % 2 ^ w ≡ tally b * 2 ^ i
+answer_shl w i x b e l = rw (e, answer_is b) (leaf_is w (tally b) i (tally_two b) l)
+
+-- a turn of the code that asks a test
+pub gather_asked : (p : ℕ → Bool) (w i m x : ℕ) (b : Bool) → m ≡ gather i (λ j. tally (p j)) → x ≡ bool_byte b → b ≡ p i → i < w
+    → bit_or m (x * 2 ^ i % 2 ^ w) ≡ gather (i + 1) (λ j. tally (p j))
+gather_asked p w i m x b e q h l = gather_turn (λ j. tally (p j)) i m _ e (answer_shl w i x b q l ∙ rw h)
 
 -- gathered while the members of a set are walked: those of them that pass the test
 pub gather_among : (n m : ℕ) (p : ℕ → Bool) → over_members n m (λ j x. bit_or x (tally (p j) * 2 ^ j)) 0 ≡ gather n (λ j. tally (holds m j && p j))

@@ -16,7 +16,7 @@ pub(crate) struct Steps {
     pub(crate) under_way: u32,
 }
 
-#[tactic(auto, using(crate::proofs::Chains::fold_union))]
+#[tactic(auto, using(mask::proofs::Union::fold_union))]
 fn are_empty(rows: &[u32]) -> bool
     requires { length rows.now ≡ jobs }
     ensures { result ≡ (union_of jobs (entry rows.now) == 0) }

@@ -1,7 +1,6 @@
 // The tickets: who holds one, and whether those of the open slots differ and a free slot has none.
-ghost use Rattle.std.specs.Prelude.{◌≡◌, ◌*◌, ◌^◌, ◌<◌, ◌==◌};
+ghost use Rattle.std.specs.Prelude.{◌≡◌, ◌<◌};
 ghost use Rattle.loops.specs.Loop.{every};
-ghost use Rattle.loops.specs.Sum.{tally};
 ghost use Rattle.tables.specs.Limits.{jobs};
 ghost use Rattle.tables.specs.Tables.{sharers_in, holders_in};
 ghost use Rattle.tables.specs.Test.{ticket_sound};
@@ -17,25 +16,13 @@ pub(crate) struct Tickets<'a> {
     pub(crate) slots: u32,
 }
 
-// Slot j as a set, where its ticket is t.
-fn sharer(ticket: u16, t: u16, j: usize) -> u32
-    requires { j < jobs }
-    ensures { result ≡ tally (ticket == t) * 2 ^ j }
-{
-    if ticket == t { 1 << j } else { 0 }
-}
-
 impl Tickets<'_> {
     // The slots with ticket t, open or not. No branch: all 32 are compared at once.
-    #[tactic(auto, using(crate::proofs::Chains::gathers), unfolding(crate::specs::Tables::sharers_in))]
+    #[tactic(auto, unfolding(crate::specs::Tables::sharers_in))]
     fn sharers(self, t: u16) -> u32
         ensures { result ≡ sharers_in self.entry.by_slot.now t }
     {
-        let mut m = 0;
-        for (j, ticket) in self.by_slot.iter().enumerate() {
-            m |= sharer(*ticket, t, j);
-        }
-        m
+        mask::gathered(|j| self.by_slot[j] == t)
     }
 
     // The open slots whose job holds ticket t.

@@ -1,23 +1,24 @@
-use Rattle.std.proofs.Common.{ℕ, ◌<◌, arith}
+use Rattle.std.proofs.Common.{rules, ◌≡◌, ◌<◌, ◌^◌, ℕ, List, length, sum_by, ◌∙◌, arith}
+use Rattle.std.proofs.iter.runs.Sources.{sums}
+use Rattle.std.proofs.lemmas.Iterator.{YieldsList-from_map, YieldsList-from_slice}
+use Rattle.std.proofs.lemmas.Iterator.Consumers.{YieldsList-at, sum_by_from_yields_List}
+use Rattle.loops.proofs.Chains.{sum_list}
 use Rattle.loops.proofs.Sums.{sum_le}
-use Rattle.loops.proofs.Turns.{sum_none, sum_more, sum_done}
+use Rattle.mask.specs.Member.{size}
 use Rattle.mask.proofs.Size.{size_le}
 use Rattle.coordinator.specs.Limits.{jobs, databases}
 use Rattle.coordinator.specs.Views.{entry}
 use Rattle.coordinator.proofs.count.count_all.Goals as goal
 
-pub loop-set-init : goal.loop-set-init
-loop-set-init c = sum_none _
-
 -- at most all slots at each database
-pub overflow_add-n : goal.overflow_add-n
-overflow_add-n c =
-    let before = sum_le c.loop-set.set-index jobs _ (λ (u : ℕ) (l : u < c.loop-set.set-index). size_le jobs (entry c.args.sets.now u)) in
-    let here = size_le jobs (entry c.args.sets.now c.loop-set.set-index) in
-    omega arith
+fits : (sets : List ℕ) → length sets ≡ databases → sum_by (size jobs) sets < 2 ^ 32
+fits sets e = omega (arith, sum_list (size jobs) sets databases e, sum_le databases jobs _ (λ (u : ℕ) (l : u < databases). size_le jobs (entry sets u)))
 
-pub loop-set-preserved : goal.loop-set-preserved
-loop-set-preserved c = sum_more _ _ c.loop-set.invariant c.size-n.ensures
+pub sum-requires-clause-fits : goal.sum-requires-clause-fits
+sum-requires-clause-fits c = let f = fits c.args.sets.now c.told-sets in search (rules, sums)
 
 pub returns : goal.returns
-returns c = sum_done _ databases _ c.loop-set.auto.set-index-end c.loop-set-test.false c.loop-set.invariant
+returns c =
+    sum_by_from_yields_List (size jobs) c.args.sets.now _ _ c.sum.ensures.ran
+    (YieldsList-from_map _ (size jobs) (YieldsList-at c.map.ensures.source (YieldsList-from_slice c.args.sets.now cc)) c.map.ensures.closure (λ x r q k. search rules))
+    ∙ sum_list (size jobs) c.args.sets.now databases c.told-sets

@@ -1,5 +1,5 @@
 use Rattle.std.proofs.Common.{◌∙◌}
-use Rattle.mask.proofs.Gather.{gather_among}
+use Rattle.mask.proofs.Gather.{answer_shl, gather_among}
 use Rattle.mask.proofs.Walking.{left_start, left_turn, left_done}
 use Rattle.coordinator.specs.Limits.{jobs}
 use Rattle.coordinator.specs.Tables.{may_close_now_in}
@@ -10,7 +10,7 @@ loop-j-init c = rw (c.into_iter-j-iterator.ensures.into_iter_gives, c.members-j-
 
 pub loop-j-preserved : goal.loop-j-preserved
 loop-j-preserved c =
-    left_turn _ jobs _ _ _ _ _ c.in-Some.ensures.steps.0 c.loop-j.invariant _ _ c.in-Some.ensures.steps.1 (rw c.free-found.ensures)
+    left_turn _ jobs _ _ _ _ _ c.in-Some.ensures.steps.0 c.loop-j.invariant _ _ c.in-Some.ensures.steps.1 (rw (← c.may_close.ensures, answer_shl 32 _ _ _ c.from.ensures c.in-Some.ensures.steps.0.within))
 
 pub returns : goal.returns
 unfolding may_close_now_in
