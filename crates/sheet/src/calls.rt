@@ -1,33 +1,28 @@
 // The calls, each with its answer printed.
 use crate::say;
 use coordinator::Coordinator;
-use coordinator::answers::{AskAnswer, CloseAnswer, ConfirmAnswer, OpenAnswer};
+use coordinator::answers::{Asked, Closed, Opened};
 use numbers::{Database, Ticket};
+use refusals::Refusal;
 use std::io;
 
-fn refused(rt: &impl Print, n: u8) -> io::Result<()> {
+fn refused(rt: &impl Print, refusal: Refusal) -> io::Result<()> {
     say::text(rt, b" refused")?;
-    say::number(rt, n as u32)
+    say::number(rt, u32::from(u8::from(refusal)))
 }
 
 pub(crate) fn open(rt: &impl Print, s: Coordinator, mask: u16) -> io::Result<Coordinator> {
-    let r = s.open(mask);
-    let answer = r.answer;
-    match answer {
-        OpenAnswer::Refused(n) => refused(rt, n)?,
-        OpenAnswer::Opened {
-            ticket,
-            added,
-            moves,
-        } => {
+    let after = s.open(mask);
+    match after.answer {
+        Err(refusal) => refused(rt, refusal)?,
+        Ok(opened) => {
             say::text(rt, b" opened")?;
-            say::number(rt, ticket.0 as u32)?;
-            say::number(rt, added)?;
-            say::number(rt, moves)?;
+            say::ticket(rt, opened.ticket)?;
+            say::number(rt, opened.added)?;
+            say::number(rt, opened.moves)?;
         }
     }
-    let after = r.state;
-    Ok(after)
+    Ok(after.state)
 }
 
 pub(crate) fn ask(
@@ -36,15 +31,13 @@ pub(crate) fn ask(
     ticket: u16,
     database: u8,
 ) -> io::Result<Coordinator> {
-    let r = s.ask(Ticket(ticket), Database(database));
-    let answer = r.answer;
-    match answer {
-        AskAnswer::Refused(n) => refused(rt, n)?,
-        AskAnswer::Released => say::text(rt, b" released")?,
-        AskAnswer::Held => say::text(rt, b" held")?,
+    let after = s.ask(Ticket(ticket), Database(database));
+    match after.answer {
+        Err(refusal) => refused(rt, refusal)?,
+        Ok(Asked::Released) => say::text(rt, b" released")?,
+        Ok(Asked::Held) => say::text(rt, b" held")?,
     }
-    let after = r.state;
-    Ok(after)
+    Ok(after.state)
 }
 
 pub(crate) fn confirm(
@@ -53,116 +46,63 @@ pub(crate) fn confirm(
     ticket: u16,
     database: u8,
 ) -> io::Result<Coordinator> {
-    let r = s.confirm(Ticket(ticket), Database(database));
-    let answer = r.answer;
-    match answer {
-        ConfirmAnswer::Refused(n) => refused(rt, n)?,
-        ConfirmAnswer::Released(t) => {
+    let after = s.confirm(Ticket(ticket), Database(database));
+    match after.answer {
+        Err(refusal) => refused(rt, refusal)?,
+        Ok(Some(released)) => {
             say::text(rt, b" releases")?;
-            say::number(rt, t.0 as u32)?;
+            say::ticket(rt, released)?;
         }
-        ConfirmAnswer::Nothing => say::text(rt, b" confirmed")?,
+        Ok(None) => say::text(rt, b" confirmed")?,
     }
-    let after = r.state;
-    Ok(after)
+    Ok(after.state)
 }
 
 pub(crate) fn close(rt: &impl Print, s: Coordinator, ticket: u16) -> io::Result<Coordinator> {
-    let r = s.close(Ticket(ticket));
-    let answer = r.answer;
-    let tickets = r.tickets;
-    match answer {
-        CloseAnswer::Refused(n) => refused(rt, n)?,
-        CloseAnswer::Held => say::text(rt, b" held")?,
-        CloseAnswer::Closed(n) => {
+    let after = s.close(Ticket(ticket));
+    match after.answer {
+        Err(refusal) => refused(rt, refusal)?,
+        Ok(None) => say::text(rt, b" held")?,
+        Ok(Some(closed)) => {
             say::text(rt, b" closes")?;
-            closed(rt, &tickets, n)?;
+            for t in closed.tickets.iter().take(closed.count as usize) {
+                say::ticket(rt, Ticket(*t))?;
+            }
         }
     }
-    let after = r.state;
-    Ok(after)
-}
-
-// The first n of the tickets.
-fn closed(rt: &impl Print, tickets: &[u16; Coordinator::JOBS], n: u32) -> io::Result<()> {
-    for i in 0..Coordinator::JOBS {
-        if (i as u32) < n {
-            say::ticket(rt, tickets[i])?;
-        }
-    }
-    Ok(())
-}
-
-fn quiet(s: Coordinator) -> Coordinator {
-    let r = s.open(1);
-    let after = r.state;
-    after
+    Ok(after.state)
 }
 
 // So many openings of {0}, without a word.
 pub(crate) fn opened(s: Coordinator, n: u32) -> Coordinator {
     let mut t = s;
-    for i in 0..n {
-        t = quiet(t);
+    for _ in 0..n {
+        t = t.open(1).state;
     }
     t
 }
 
-// The state, and in how many rounds the ticket was the round's number.
-#[derive(Clone, Copy)]
-pub(crate) struct Table {
-    pub(crate) state: Coordinator,
-    pub(crate) as_told: u32,
+// Open, ask, confirm and close on {1}. Whether the ticket was i, and the job alone was closed.
+fn round(s: Coordinator, i: u16) -> (Coordinator, bool) {
+    let opened = s.open(2);
+    let Ok(Opened { ticket, .. }) = opened.answer else {
+        return (opened.state, false);
+    };
+    let asked = opened.state.ask(ticket, Database(1));
+    let confirmed = asked.state.confirm(ticket, Database(1));
+    let ended = confirmed.state.close(ticket);
+    let alone = matches!(ended.answer, Ok(Some(Closed { count: 1, .. })));
+    (ended.state, alone && ticket.0 == i)
 }
 
-fn ticket_of(a: OpenAnswer) -> Ticket {
-    match a {
-        OpenAnswer::Refused(n) => Ticket(0),
-        OpenAnswer::Opened {
-            ticket,
-            added,
-            moves,
-        } => ticket,
-    }
-}
-
-fn is_closed(a: CloseAnswer) -> bool {
-    match a {
-        CloseAnswer::Refused(n) => false,
-        CloseAnswer::Held => false,
-        CloseAnswer::Closed(n) => n == 1,
-    }
-}
-
-// Open, ask, confirm and close on {1}.
-fn round(t: Table, i: u32) -> Table {
-    let s = t.state;
-    let a = s.open(2);
-    let answer = a.answer;
-    let ticket = ticket_of(answer);
-    let s1 = a.state;
-    let b = s1.ask(ticket, Database(1));
-    let s2 = b.state;
-    let c = s2.confirm(ticket, Database(1));
-    let s3 = c.state;
-    let d = s3.close(ticket);
-    let s4 = d.state;
-    let ending = d.answer;
-    let mut as_told = t.as_told;
-    if ticket.0 as u32 == i {
-        if is_closed(ending) {
-            if as_told < 65535 {
-                as_told += 1;
-            }
-        }
-    }
-    Table { state: s4, as_told }
-}
-
-pub(crate) fn rounds(t: Table) -> Table {
-    let mut u = t;
+// The state left, and in how many rounds the ticket was the round's number.
+pub(crate) fn rounds(s: Coordinator) -> (Coordinator, u32) {
+    let mut state = s;
+    let mut as_told = 0;
     for i in 0..65535 {
-        u = round(u, i);
+        let (after, told) = round(state, i);
+        state = after;
+        as_told += u32::from(told);
     }
-    u
+    (state, as_told)
 }

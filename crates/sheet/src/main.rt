@@ -3,7 +3,6 @@
 mod calls;
 mod say;
 
-use calls::Table;
 use coordinator::Coordinator;
 use numbers::Ticket;
 use std::io;
@@ -79,12 +78,9 @@ fn no_such_database(rt: &impl Print) -> io::Result<()> {
 fn round_and_round(rt: &impl Print) -> io::Result<()> {
     say::line(rt, 12)?;
     let a = calls::open(rt, Coordinator::fresh(Ticket(65535)), 1)?;
-    let b = calls::rounds(Table {
-        state: a,
-        as_told: 0,
-    });
-    say::number(rt, b.as_told)?;
-    let c = calls::open(rt, b.state, 2)?;
+    let (b, as_told) = calls::rounds(a);
+    say::number(rt, as_told)?;
+    let c = calls::open(rt, b, 2)?;
     say::end(rt, c.maker.next)
 }
 

@@ -1,4 +1,5 @@
 // What is printed.
+use numbers::Ticket;
 use std::io;
 
 pub(crate) fn text(rt: &impl Print, t: &[u8]) -> io::Result<()> {
@@ -10,8 +11,8 @@ pub(crate) fn number(rt: &impl Print, n: u32) -> io::Result<()> {
     rt.print(n)
 }
 
-pub(crate) fn ticket(rt: &impl Print, t: u16) -> io::Result<()> {
-    number(rt, t as u32)
+pub(crate) fn ticket(rt: &impl Print, t: Ticket) -> io::Result<()> {
+    number(rt, u32::from(t.0))
 }
 
 // A line of the sheet begins.
@@ -26,5 +27,5 @@ pub(crate) fn line(rt: &impl Print, n: u32) -> io::Result<()> {
 // The next candidate, at the end of a run.
 pub(crate) fn end(rt: &impl Print, next: u16) -> io::Result<()> {
     text(rt, b" next")?;
-    number(rt, next as u32)
+    number(rt, u32::from(next))
 }
