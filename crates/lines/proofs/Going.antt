@@ -73,12 +73,12 @@ module _ (index : ℕ) (s : Coordinator) (b o₀ o : List ℕ) (t : Coordinator)
   room_on h = omega (arith, g.room, g.count, g.long, g.here)
 
   -- a whole record more
-  pub on : (q : Answered) (r : ℕ) (o₁ : List ℕ) (next : ℕ) → q ≡ answer_at t b at → at + 4 ≤ length b → next ≡ at + 4 → r ≡ w + length (line_of i q) → r ≤ w + longest → o₁ ≡ put o w (line_of i q) →
-      Going index s b o₀ o₁ q.state (i + 1) next r
-  on q r o₁ next eq h en er lr eo =
+  pub on : (q : Answered) (r : ℕ) (o₁ : List ℕ) (j next : ℕ) → q ≡ answer_at t b at → at + 4 ≤ length b → j ≡ i + 1 → next ≡ at + 4 → r ≡ w + length (line_of i q) → r ≤ w + longest → o₁ ≡ put o w (line_of i q) →
+      Going index s b o₀ o₁ q.state j next r
+  on q r o₁ j next eq h ej en er lr eo =
       let e : lines_of i t (drop at b) ≡ line_of i q ++ lines_of (i + 1) q.state (drop (at + 4) b) = rw eq (lines_on i t b at h) in
       let m : w + longest ≤ length o = room_on (omega (arith, h)) in
-      rw en (record {
+      rw (ej, en) (record {
         here = h;
         count = omega (arith, g.count);
         room = omega (arith, g.room);

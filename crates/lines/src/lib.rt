@@ -31,15 +31,14 @@ fn play_all(state: &mut Coordinator, start: u64, records: &[u8], out: &mut [u8])
 {
     let mut tested = Tested::new(*state);
     let (whole, rest) = records.as_chunks::<4>();
-    let mut index = start;
     let mut wrote = 0;
-    for bytes in whole {
+    for (i, bytes) in whole.iter().enumerate() {
         let asked = Request::try_from(*bytes);
         let answer = tested.play(asked);
-        wrote = put_line(index, tell(asked, answer.numbers), out, wrote);
-        index += 1;
+        wrote = put_line(start + i as u64, tell(asked, answer.numbers), out, wrote);
     }
     *state = tested.state;
+    let mut index = start + whole.len() as u64;
     if !rest.is_empty() {
         wrote = put_line(index, LEFT_OVER, out, wrote);
         index += 1;
