@@ -1,5 +1,5 @@
 -- What is answered, with and without a search. Assumes nothing.
-use Prim.Native.Nat.{ℕ, ◌≤◌, ◌<◌}
+use Prim.Native.Nat.{ℕ, zero, suc, ◌+◌, ◌*◌, ◌≤◌, ◌<◌}
 use native.Mathlib.Omega.{arith}
 use mathlib.Core.Bool.{true, false}
 use mathlib.Core.List.{List}
@@ -10,21 +10,23 @@ use lib.ListN.{get_or, replicate}
 use Rattle.std.specs.Borrow.{Bor}
 use Rattle.std.specs.Prelude.{None}
 use Rattle.loops.proofs.Tests.{both}
-use Rattle.mask.specs.Member.{holds}
+use Rattle.loops.specs.Sum.{sum}
+use Rattle.mask.specs.Member.{holds, size}
 use Rattle.walks.specs.Walk.{Link}
 use Rattle.walks.specs.Engine.{Made, Engine}
+use Rattle.walks.specs.Marks.{count}
 use Rattle.walks.specs.Rows.{row_none}
 use Rattle.walks.specs.Search.{Seek}
 use Rattle.walks.proofs.Walk.{reach_job}
 use Rattle.walks.proofs.Next.{Hit}
 use Rattle.walks.proofs.Marking.{count_none}
-use Rattle.walks.proofs.Opening.{opening_engine}
+use Rattle.walks.proofs.Opening.{opening_engine, rows_count}
 use Rattle.numbers.specs.declared.Slot.{Slot}
 use Rattle.search.specs.declared.Sought.{Sought}
 use Rattle.search.specs.Limits.{jobs, databases}
 use Rattle.search.specs.Search.{searched, sought}
 use Rattle.search.specs.declared.Walker.{Walker}
-use Rattle.search.specs.Visit.{marks, Given, given, graph_of, sets, all_ahead, Ready, Through, Taken, BeforeJob, JobVisited}
+use Rattle.search.specs.Visit.{marks, Given, given, graph_of, sets, all_ahead, Ready, Through, Taken, due, BeforeJob, JobVisited}
 use Rattle.search.proofs.Ahead.{all_grows, all_only}
 
 answer : Seek marks → Sought
@@ -39,7 +41,6 @@ begin named dependencies n = record {
   ahead = all_ahead named.now (replicate jobs 0);
   reached = replicate databases 0;
   found = replicate databases 0;
-  moves = 0;
 }
 
 module _ (named dependencies : Bor (List ℕ)) (n : Slot) where
@@ -58,7 +59,6 @@ module _ (named dependencies : Bor (List ℕ)) (n : Slot) where
     reached_sets = marks.good_none;
     found_sets = marks.good_none;
     sound = record { walks = λ w u e. both e (row_none databases w u); ends = λ v u e. both e (row_none databases v u) };
-    fits = omega arith;
   }
     where
       by : (v u : ℕ) → ((u < databases) × (holds (get_or g.named u 0) v ≡ true)) ⊎ (sets.has (replicate jobs 0) u v ≡ true) → (u < databases) × (holds (get_or g.named u 0) v ≡ true)
@@ -90,22 +90,39 @@ module _ (named dependencies : Bor (List ℕ)) (n : Slot) where
         by (inl k) = both k (row_none databases w t)
         by (inr k) = k
 
-    visited_engine : Engine (graph_of g) (marks.has r.reached) (marks.has r.found) r.moves
+    visited_engine : Engine (graph_of g) (marks.has r.reached) (marks.has r.found) (due r)
     visited_engine = record {
       walks = h.onward.ready.sound.walks;
       ends = h.onward.ready.sound.ends;
       begun = made g.new databases h.onward.ready.new_job h.taken;
       closed = λ w t e. made w t (reach_job (h.onward.ready.sound.walks w t e)) (stood w t e);
-      tally = omega (arith, h.onward.tally, count_none marks);
+      tally = refl;
     }
 
-    pub search_some : record { found = r.found; moves = r.moves } ≡ sought g.named g.dependencies g.new
+    pub search_some : record { found = r.found; moves = due r } ≡ sought g.named g.dependencies g.new
     unfolding sought searched answer
     search_some =
         rw (sought, lt-ltb g.new jobs h.onward.ready.new_job)
         (ap answer
-        (opening_engine (graph_of g) h.onward.ready.new_job (record { reached = r.reached; found = r.found; moves = r.moves }) h.onward.ready.reached_sets h.onward.ready.found_sets visited_engine))
+        (opening_engine (graph_of g) h.onward.ready.new_job (record { reached = r.reached; found = r.found; moves = due r }) h.onward.ready.reached_sets h.onward.ready.found_sets visited_engine))
 
-pub search_none : (named dependencies : List ℕ) (n : ℕ) → jobs ≤ n → record { found = replicate databases 0; moves = 0 } ≡ sought named dependencies n
+-- the moves, counted by databases
+sum_due : (K : ℕ) (f h : ℕ → ℕ) → sum K (λ u. 2 * f u + h u) ≡ 2 * sum K f + sum K h
+unfolding sum
+sum_due zero f h = refl
+sum_due (suc K) f h = omega (arith, sum_due K f h)
+
+pub due_counted : (s : Walker) → sum databases (λ u. 2 * size jobs (get_or s.reached u 0) + size jobs (get_or s.found u 0)) ≡ due s
+due_counted s =
+    omega (
+      arith,
+      sum_due databases (λ u. size jobs (get_or s.reached u 0)) (λ u. size jobs (get_or s.found u 0)),
+      rows_count jobs databases s.reached,
+      rows_count jobs databases s.found,
+    )
+
+pub search_none : (named dependencies : List ℕ) (n : ℕ) → jobs ≤ n
+    → record { found = replicate databases 0; moves = 2 * count marks (replicate databases 0) + count marks (replicate databases 0) } ≡ sought named dependencies n
 unfolding sought
-search_none named dependencies n h = rw (sought, le-ltb n jobs h)
+search_none named dependencies n h =
+    rw (sought, le-ltb n jobs h) (ap (λ (m : ℕ). record { found = replicate databases 0; moves = m }) (omega (arith, count_none marks)))
