@@ -1,5 +1,5 @@
 -- What is answered, with and without a search. Assumes nothing.
-use Prim.Native.Nat.{ℕ, zero, suc, ◌+◌, ◌*◌, ◌≤◌, ◌<◌}
+use Prim.Native.Nat.{ℕ, ◌+◌, ◌*◌, ◌≤◌, ◌<◌}
 use native.Mathlib.Omega.{arith}
 use mathlib.Core.Bool.{true, false}
 use mathlib.Core.List.{List}
@@ -10,8 +10,7 @@ use lib.ListN.{get_or, replicate}
 use Rattle.std.specs.Borrow.{Bor}
 use Rattle.std.specs.Prelude.{None}
 use Rattle.loops.proofs.Tests.{both}
-use Rattle.loops.specs.Sum.{sum}
-use Rattle.mask.specs.Member.{holds, size}
+use Rattle.mask.specs.Member.{holds}
 use Rattle.walks.specs.Walk.{Link}
 use Rattle.walks.specs.Engine.{Made, Engine}
 use Rattle.walks.specs.Marks.{count}
@@ -20,7 +19,7 @@ use Rattle.walks.specs.Search.{Seek}
 use Rattle.walks.proofs.Walk.{reach_job}
 use Rattle.walks.proofs.Next.{Hit}
 use Rattle.walks.proofs.Marking.{count_none}
-use Rattle.walks.proofs.Opening.{opening_engine, rows_count}
+use Rattle.walks.proofs.Opening.{opening_engine}
 use Rattle.numbers.specs.declared.Slot.{Slot}
 use Rattle.search.specs.declared.Sought.{Sought}
 use Rattle.search.specs.Limits.{jobs, databases}
@@ -105,21 +104,6 @@ module _ (named dependencies : Bor (List ℕ)) (n : Slot) where
         rw (sought, lt-ltb g.new jobs h.onward.ready.new_job)
         (ap answer
         (opening_engine (graph_of g) h.onward.ready.new_job (record { reached = r.reached; found = r.found; moves = due r }) h.onward.ready.reached_sets h.onward.ready.found_sets visited_engine))
-
--- the moves, counted by databases
-sum_due : (K : ℕ) (f h : ℕ → ℕ) → sum K (λ u. 2 * f u + h u) ≡ 2 * sum K f + sum K h
-unfolding sum
-sum_due zero f h = refl
-sum_due (suc K) f h = omega (arith, sum_due K f h)
-
-pub due_counted : (s : Walker) → sum databases (λ u. 2 * size jobs (get_or s.reached u 0) + size jobs (get_or s.found u 0)) ≡ due s
-due_counted s =
-    omega (
-      arith,
-      sum_due databases (λ u. size jobs (get_or s.reached u 0)) (λ u. size jobs (get_or s.found u 0)),
-      rows_count jobs databases s.reached,
-      rows_count jobs databases s.found,
-    )
 
 pub search_none : (named dependencies : List ℕ) (n : ℕ) → jobs ≤ n
     → record { found = replicate databases 0; moves = 2 * count marks (replicate databases 0) + count marks (replicate databases 0) } ≡ sought named dependencies n
