@@ -1,4 +1,4 @@
--- For the callers: what the functions over lent arrays say of the tables is what the definitions say of the state. Assumes nothing.
+-- For the callers: what the functions that are lent a table say of it is what the definitions say of the state. Assumes nothing.
 use Prim.Native.Nat.{ℕ}
 use mathlib.Core.Path.{◌≡◌, refl}
 use mathlib.Core.Bool.{Bool}

@@ -1,4 +1,4 @@
--- What the code reads of a state, told of the tables alone: inner functions are lent arrays and never see the state. Assumes nothing: these are definitions.
+-- What the code reads of a state, told of one table or two: small functions are lent these and not the state. Assumes nothing: these are definitions.
 use Rattle.std.specs.Prelude.{ℕ, ◌+◌, ◌*◌, Bool, true, false, not, ◌&&◌, ◌||◌, List, eqb, ltb}
 use Rattle.loops.specs.Loop.{every}
 use Rattle.loops.specs.Sum.{tally}

@@ -26,7 +26,7 @@ pub struct Closed {
 }
 
 // A call's answer or why it was refused, and the state left: a refusal leaves the one handed in.
-#[derive(Clone, Copy)]
+#[derive(Clone, Copy, Debug, PartialEq, Eq)]
 pub struct After<A> {
     pub answer: Result<A, Refusal>,
     pub state: Coordinator,

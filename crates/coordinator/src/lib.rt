@@ -26,7 +26,7 @@ use numbers::{Database, NumberMaker, Slot, Ticket};
 
 // The state, by sets of slots. At database k: the slots whose job names k, and those whose step there is asked, released, confirmed.
 // At k * JOBS + b: the slots that go before slot b at k. By slot: the job's ticket, whether its close is held. Then the opening order.
-#[derive(Clone, Copy)]
+#[derive(Clone, Copy, Debug, PartialEq, Eq)]
 pub struct Coordinator {
     pub tickets: [u16; Coordinator::JOBS],
     pub held: u32,
@@ -44,7 +44,7 @@ impl Coordinator {
 
     pub const DATABASES: usize = Database::COUNT;
 
-    pub const STEPS: usize = Coordinator::JOBS * Coordinator::DATABASES;
+    pub const STEPS: usize = numbers::STEPS;
 
     // A fresh start at any first candidate.
     pub fn fresh(first: Ticket) -> Coordinator

@@ -1,4 +1,4 @@
-// What the tables mean, read off lent arrays.
+// What a table means at a database and a slot that may be any number.
 ghost use Rattle.std.specs.Prelude.{◌≡◌};
 ghost use Rattle.mask.specs.Member.{holds};
 ghost use Rattle.coordinator.specs.Tables.{set_at};

@@ -18,7 +18,7 @@ use text::put_line;
 const LONGEST: usize = 47;
 
 // What playing some records tells: the next index, and how many bytes were written.
-#[derive(Clone, Copy)]
+#[derive(Clone, Copy, Debug, PartialEq, Eq)]
 pub struct Played {
     pub index: u64,
     pub wrote: usize,

@@ -24,6 +24,9 @@ impl Database {
     pub const COUNT: usize = 16;
 }
 
+// A step for each job and database.
+pub const STEPS: usize = Slot::COUNT * Database::COUNT;
+
 // What gives out tickets: the candidate that the next one starts from.
 #[derive(Clone, Copy, Debug, PartialEq, Eq)]
 pub struct NumberMaker {

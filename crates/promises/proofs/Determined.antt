@@ -35,6 +35,7 @@ determined = record {
   of_open = λ sound mask slots. equation _;
   of_step = λ sound found k names applies own. equation _;
   of_close = λ sound found confirmed held. equation _;
+  refusal_number = λ refusal. equation _;
   search = λ named dependencies n. equation _;
   absent = λ held t. equation _;
   next_number = λ t. equation _;
@@ -47,4 +48,8 @@ determined = record {
   rest_of = λ n m. equation _;
   size_of = λ n m. equation _;
   less_of = λ n a b. equation _;
+  word_of = λ m. equation _;
+  of_word = λ n w. equation _;
+  members_of = λ m. equation _;
+  gathered = λ p. equation _;
 }

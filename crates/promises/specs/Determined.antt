@@ -1,6 +1,9 @@
 -- Any two results that meet a contract are equal, for every public function of the coordinator and of the floors below it, as their sources have it.
 -- Assumes nothing: these are definitions.
-use Rattle.std.specs.Prelude.{ℕ, Bool, List, ◌≡◌, Option, Result}
+use Rattle.std.specs.Prelude.{◌%◌, ◌^◌, ℕ, Bool, List, ◌≡◌, Option, Result}
+use Rattle.loops.specs.Sum.{tally}
+use Rattle.mask.specs.Members.{gather}
+use Rattle.refusals.specs.Number.{number}
 use Rattle.mask.specs.Member.{holds, joined, excluding, less, lowest, size}
 use Rattle.numbers.specs.declared.NumberMaker.{NumberMaker}
 use Rattle.numbers.specs.Ticket.{absent_in, after, ticket_from}
@@ -35,7 +38,7 @@ pub record Determined : Type 0 where
   pub ask : (s : Coordinator) (t k : ℕ) → Determines (λ (r : After Asked). r ≡ after_ask s t k)
   pub confirm : (s : Coordinator) (t k : ℕ) → Determines (λ (r : After (Option Ticket)). r ≡ after_confirm s t k)
   pub close : (s : Coordinator) (t : ℕ) → Determines (λ (r : After (Option Closed)). r ≡ after_close s t)
-  -- and given whether the state is sound, the tables put together
+  -- and in place, given whether the state is sound
   pub open_tested : (b : Bool) (s : Coordinator) (mask : ℕ) → Determines (λ (r : After Opened). r ≡ after_open_tested b s mask)
   pub ask_tested : (b : Bool) (s : Coordinator) (t k : ℕ) → Determines (λ (r : After Asked). r ≡ after_ask_tested b s t k)
   pub confirm_tested : (b : Bool) (s : Coordinator) (t k : ℕ) → Determines (λ (r : After (Option Ticket)). r ≡ after_confirm_tested b s t k)
@@ -53,6 +56,7 @@ pub record Determined : Type 0 where
   pub of_step : (sound : Bool) (found k : ℕ) (names applies : Bool) (own : Refusal)
       → Determines (λ (r : Result Unit Refusal). r ≡ outcome (step_refusal sound found k names applies own))
   pub of_close : (sound : Bool) (found : ℕ) (confirmed held : Bool) → Determines (λ (r : Result Unit Refusal). r ≡ outcome (job_refusal sound found confirmed held))
+  pub refusal_number : (refusal : Refusal) → Determines (λ (r : ℕ). r ≡ number refusal)
   -- the opening search
   pub search : (named dependencies : List ℕ) (n : ℕ) → Determines (λ (r : Sought). r ≡ sought named dependencies n)
   -- the number maker: the ticket that `take` gives, and the number maker that it leaves
@@ -68,3 +72,7 @@ pub record Determined : Type 0 where
   pub rest_of : (n m : ℕ) → Determines (λ (r : ℕ). r ≡ excluding m (lowest n m))
   pub size_of : (n m : ℕ) → Determines (λ (r : ℕ). r ≡ size n m)
   pub less_of : (n a b : ℕ) → Determines (λ (r : ℕ). r ≡ less n a b)
+  pub word_of : (m : ℕ) → Determines (λ (r : ℕ). r ≡ m)
+  pub of_word : (n w : ℕ) → Determines (λ (r : ℕ). r ≡ w % 2 ^ n)
+  pub members_of : (m : ℕ) → Determines (λ (left : ℕ). left ≡ m)
+  pub gathered : (p : ℕ → Bool) → Determines (λ (r : ℕ). r ≡ gather 32 (λ j. tally (p j)))

@@ -17,11 +17,11 @@ use Rattle.coordinator.specs.declared.answers.Closed.{Closed}
 use Rattle.numbers.specs.declared.Ticket.{Ticket}
 
 unfoldable pub answer_tested : Bool → Coordinator → Option Call → Played
-answer_tested isSound s None = record { values = refused 11; state = s }
-answer_tested isSound s (Some (open_job mask)) = let r : After Opened = after_open_tested isSound s mask in record { values = open_values r.answer; state = r.state }
-answer_tested isSound s (Some (ask_step t k)) = let r : After Asked = after_ask_tested isSound s t k in record { values = ask_values r.answer; state = r.state }
-answer_tested isSound s (Some (confirm_step t k)) = let r : After (Option Ticket) = after_confirm_tested isSound s t k in record { values = confirm_values r.answer; state = r.state }
-answer_tested isSound s (Some (close_job t)) = let r : After (Option Closed) = after_close_tested isSound s t in record { values = close_values r.answer; state = r.state }
+answer_tested is_sound s None = record { values = refused 11; state = s }
+answer_tested is_sound s (Some (open_job mask)) = let r : After Opened = after_open_tested is_sound s mask in record { values = open_values r.answer; state = r.state }
+answer_tested is_sound s (Some (ask_step t k)) = let r : After Asked = after_ask_tested is_sound s t k in record { values = ask_values r.answer; state = r.state }
+answer_tested is_sound s (Some (confirm_step t k)) = let r : After (Option Ticket) = after_confirm_tested is_sound s t k in record { values = confirm_values r.answer; state = r.state }
+answer_tested is_sound s (Some (close_job t)) = let r : After (Option Closed) = after_close_tested is_sound s t in record { values = close_values r.answer; state = r.state }
 
 -- p is what was played, r tells its values, zeros after its tickets, and s is the state left
 pub record Plays (p : Played) (r : Answer) (s : Coordinator) : Type 0 where

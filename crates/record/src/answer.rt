@@ -11,7 +11,7 @@ use numbers::Ticket;
 use refusals::Refusal;
 
 // The numbers of an answer, zeros where a call has nothing to say.
-#[derive(Clone, Copy, Default)]
+#[derive(Clone, Copy, Debug, PartialEq, Eq, Default)]
 pub struct Numbers {
     pub refusal: u8,
     pub released: u8,
@@ -22,7 +22,7 @@ pub struct Numbers {
 }
 
 // The numbers, and the tickets closed in order with zeros after them.
-#[derive(Clone, Copy)]
+#[derive(Clone, Copy, Debug, PartialEq, Eq)]
 pub struct Answer {
     pub numbers: Numbers,
     pub tickets: [u16; Coordinator::JOBS],

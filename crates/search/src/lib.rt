@@ -8,11 +8,9 @@ ghost use Rattle.walks.specs.Marks.{count};
 ghost use Rattle.search.specs.Visit.{marks, put_ahead, all_ahead, turned, due, BeforeJob, JobVisited, BeforeDatabase, DatabaseVisited, Others};
 
 use mask::Set;
-use numbers::{Database, Slot};
+use numbers::{Database, STEPS, Slot};
 
-const STEPS: usize = Slot::COUNT * Database::COUNT;
-
-#[derive(Clone, Copy)]
+#[derive(Clone, Copy, Debug, PartialEq, Eq)]
 pub struct Sought {
     pub found: [u32; Database::COUNT],
     pub moves: u32,

@@ -7,10 +7,7 @@ pub mod slots;
 mod sound;
 mod tickets;
 
-use numbers::{Database, Slot};
-
-// A step for each job and database.
-const STEPS: usize = Slot::COUNT * Database::COUNT;
+use numbers::{Database, STEPS, Slot};
 
 // The tables of a state. At database k: the slots whose job names k, and those whose step there is asked, released, confirmed.
 // At k * Slot::COUNT + b: the slots that go before slot b at k. By slot: the job's ticket, whether its close is held. Then the opening order.
