@@ -46,6 +46,9 @@ over_done f a n i h l e = e ∙ ap (λ (k : ℕ). over k f a) (le_antisymm h l)
 pub every_done : (p : ℕ → Bool) (n i : ℕ) {x : Bool} → i ≤ n → n ≤ i → x ≡ every i p → x ≡ every n p
 every_done p n i h l e = e ∙ ap (λ (k : ℕ). every k p) (le_antisymm h l)
 
+-- for the code: a loop's start, a turn and its end
+pub ruleset turns = (over_none, over_more, over_done)
+
 -- the loop that adds up
 pub sum_none : (g : ℕ → ℕ) → 0 ≡ sum 0 g
 unfolding sum
