@@ -77,9 +77,6 @@ module _ {s₀ : Coordinator} {found : ℕ} {s : Coordinator} {tickets : List �
     pub going_lowest : Lowest jobs next (lowest jobs next)
     going_lowest = trailing_lowest jobs next (omega arith) g.fits
 
-    pub going_slot : (j : ℕ) → j ≡ lowest jobs next → j < jobs
-    going_slot j e = rw e going_lowest.within
-
     one_less : size jobs (bit_or s.held next) ≡ size jobs (excluding (bit_or s.held next) (lowest jobs next)) + 1
     one_less =
         size_excluding jobs (bit_or s.held next) (lowest jobs next) going_lowest.within
