@@ -16,6 +16,7 @@ fn unconfirmed(named: u32, confirmed: u32) -> u32
 }
 
 // Every step of the job in slot j is confirmed: it is not among those with a step that isn't.
+#[tactic(auto, using(crate::proofs::Unconfirmed::gathers), unfolding(crate::specs::Tables::all_confirmed_in))]
 pub(crate) fn all_confirmed<'a>(
     named: &'a [u32; Coordinator::DATABASES],
     confirmed: &'a [u32; Coordinator::DATABASES],

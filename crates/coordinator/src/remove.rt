@@ -8,6 +8,7 @@ use mask::Set;
 use numbers::Slot;
 
 // Slot j leaves each of the sets.
+#[tactic(auto, using(loops::proofs::Turns::turns), unfolding(crate::specs::Change::strike))]
 fn strike(sets: &mut [u32], j: Slot)
     ensures { sets.new ≡ strike (length sets.old) j.0 sets.old }
 {
@@ -17,6 +18,7 @@ fn strike(sets: &mut [u32], j: Slot)
 }
 
 // Nobody goes before the job. By number: after chunks_exact_mut a proof knows no element of the table (tried).
+#[tactic(auto, using(loops::proofs::Turns::turns), unfolding(crate::specs::Change::unled))]
 fn unlead(dependencies: &mut [u32; Coordinator::STEPS], job: Job)
     ensures { dependencies.new ≡ unled job.slot.0 dependencies.old }
 {

@@ -25,6 +25,7 @@ pub trait Set: Copy {
     fn lowest(self) -> u32
         ensures { result ≡ lowest WIDTH (number self) };
 
+    #[tactic(auto, using(crate::proofs::Holds::holds_beyond))]
     final fn holds(self, k: u8) -> bool
         ensures { result ≡ holds (number self) k }
     {
@@ -58,6 +59,7 @@ pub trait Set: Copy {
         }
     }
 
+    #[tactic(auto, using(crate::proofs::Size::ones_in_lem))]
     final fn size(self) -> u32
         ensures { result ≡ size WIDTH (number self) }
     {
@@ -65,6 +67,7 @@ pub trait Set: Copy {
     }
 
     // All but the lowest member. Of an empty set, the word less 1 wraps around and the `&` drops it: no branch is needed.
+    #[tactic(auto, using(crate::proofs::Narrow::narrow_rest))]
     final fn rest(self) -> Self
         ensures { number result ≡ excluding (number self) (lowest WIDTH (number self)) }
     {
