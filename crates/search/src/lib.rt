@@ -149,7 +149,7 @@ fn without(all: u16, via: Option<Database>) -> u16
     via.map_or(all, |u| all.without_member(u.0))
 }
 
-// Whether v is one of the slots. Here `Set::holds` was tried: it tests v again, and the search took a tenth longer.
+// Whether v is one of the slots. `Set::holds` was tried in its place: it tests v again, and the search of a full graph took a fifth longer.
 fn has(slots: u32, v: Slot) -> bool
     requires { v.0 < jobs }
     ensures { result ≡ holds slots v.0 }
