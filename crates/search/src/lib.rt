@@ -11,6 +11,7 @@ use numbers::{Database, Slot};
 
 const STEPS: usize = Slot::COUNT * Database::COUNT;
 
+// By database, the slots with a found dependency to the new job; and the moves. `sought` has them so; nobody compares or prints them.
 #[derive(Clone, Copy)]
 pub struct Sought {
     pub found: [u32; Database::COUNT],
