@@ -16,6 +16,7 @@ pub(crate) struct Steps {
     pub(crate) under_way: u32,
 }
 
+// As `slots::open_slots` of a state: a chain of one line each.
 #[tactic(auto, using(mask::proofs::Union::fold_union))]
 fn are_empty(rows: &[u32]) -> bool
     requires { length rows.now ≡ jobs }
