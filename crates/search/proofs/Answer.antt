@@ -1,5 +1,5 @@
 -- What is answered, with and without a search. Assumes nothing.
-use Prim.Native.Nat.{ℕ, ◌≤◌, ◌<◌}
+use Prim.Native.Nat.{ℕ, ◌+◌, ◌*◌, ◌≤◌, ◌<◌}
 use native.Mathlib.Omega.{arith}
 use mathlib.Core.Bool.{true, false}
 use mathlib.Core.List.{List}
@@ -13,6 +13,7 @@ use Rattle.loops.proofs.Tests.{both}
 use Rattle.mask.specs.Member.{holds}
 use Rattle.walks.specs.Walk.{Link}
 use Rattle.walks.specs.Engine.{Made, Engine}
+use Rattle.walks.specs.Marks.{count}
 use Rattle.walks.specs.Rows.{row_none}
 use Rattle.walks.specs.Search.{Seek}
 use Rattle.walks.proofs.Walk.{reach_job}
@@ -24,7 +25,7 @@ use Rattle.search.specs.declared.Sought.{Sought}
 use Rattle.search.specs.Limits.{jobs, databases}
 use Rattle.search.specs.Search.{searched, sought}
 use Rattle.search.specs.declared.Walker.{Walker}
-use Rattle.search.specs.Visit.{marks, Given, given, graph_of, sets, all_ahead, Ready, Through, Taken, BeforeJob, JobVisited}
+use Rattle.search.specs.Visit.{marks, Given, given, graph_of, sets, all_ahead, Ready, Through, Taken, due, BeforeJob, JobVisited}
 use Rattle.search.proofs.Ahead.{all_grows, all_only}
 
 answer : Seek marks → Sought
@@ -39,7 +40,6 @@ begin named dependencies n = record {
   ahead = all_ahead named.now (replicate jobs 0);
   reached = replicate databases 0;
   found = replicate databases 0;
-  moves = 0;
 }
 
 module _ (named dependencies : Bor (List ℕ)) (n : Slot) where
@@ -58,7 +58,6 @@ module _ (named dependencies : Bor (List ℕ)) (n : Slot) where
     reached_sets = marks.good_none;
     found_sets = marks.good_none;
     sound = record { walks = λ w u e. both e (row_none databases w u); ends = λ v u e. both e (row_none databases v u) };
-    fits = omega arith;
   }
     where
       by : (v u : ℕ) → ((u < databases) × (holds (get_or g.named u 0) v ≡ true)) ⊎ (sets.has (replicate jobs 0) u v ≡ true) → (u < databases) × (holds (get_or g.named u 0) v ≡ true)
@@ -90,22 +89,24 @@ module _ (named dependencies : Bor (List ℕ)) (n : Slot) where
         by (inl k) = both k (row_none databases w t)
         by (inr k) = k
 
-    visited_engine : Engine (graph_of g) (marks.has r.reached) (marks.has r.found) r.moves
+    visited_engine : Engine (graph_of g) (marks.has r.reached) (marks.has r.found) (due r)
     visited_engine = record {
       walks = h.onward.ready.sound.walks;
       ends = h.onward.ready.sound.ends;
       begun = made g.new databases h.onward.ready.new_job h.taken;
       closed = λ w t e. made w t (reach_job (h.onward.ready.sound.walks w t e)) (stood w t e);
-      tally = omega (arith, h.onward.tally, count_none marks);
+      tally = refl;
     }
 
-    pub search_some : record { found = r.found; moves = r.moves } ≡ sought g.named g.dependencies g.new
+    pub search_some : record { found = r.found; moves = due r } ≡ sought g.named g.dependencies g.new
     unfolding sought searched answer
     search_some =
         rw (sought, lt-ltb g.new jobs h.onward.ready.new_job)
         (ap answer
-        (opening_engine (graph_of g) h.onward.ready.new_job (record { reached = r.reached; found = r.found; moves = r.moves }) h.onward.ready.reached_sets h.onward.ready.found_sets visited_engine))
+        (opening_engine (graph_of g) h.onward.ready.new_job (record { reached = r.reached; found = r.found; moves = due r }) h.onward.ready.reached_sets h.onward.ready.found_sets visited_engine))
 
-pub search_none : (named dependencies : List ℕ) (n : ℕ) → jobs ≤ n → record { found = replicate databases 0; moves = 0 } ≡ sought named dependencies n
+pub search_none : (named dependencies : List ℕ) (n : ℕ) → jobs ≤ n
+    → record { found = replicate databases 0; moves = 2 * count marks (replicate databases 0) + count marks (replicate databases 0) } ≡ sought named dependencies n
 unfolding sought
-search_none named dependencies n h = rw (sought, le-ltb n jobs h)
+search_none named dependencies n h =
+    rw (sought, le-ltb n jobs h) (ap (λ (m : ℕ). record { found = replicate databases 0; moves = m }) (omega (arith, count_none marks)))

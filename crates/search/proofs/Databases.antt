@@ -101,7 +101,6 @@ module _ {s : Walker} {v : ℕ} {through : Option Database} (asked : BeforeJob s
     reached_sets = h.reached_sets;
     found_sets = h.found_sets;
     sound = h.sound;
-    fits = h.fits;
   }
     where
       by : (a u : ℕ) → a < jobs → sets.has (taking s v x).ahead u a ≡ true → (b : Bool) → sets.has s.ahead u a ≡ b → (u < databases) × (holds (get_or g.named u 0) a ≡ true)
@@ -146,7 +145,6 @@ module _ {s : Walker} {v : ℕ} {through : Option Database} (asked : BeforeJob s
       found = at.onward.found;
       through = λ a u e. before a u (at.onward.through a u e);
       taken = at.onward.taken;
-      tally = at.onward.tally;
     };
     taken = record { each = λ u ne. at.onward.ahead v u (takes.each u ne) };
   }

@@ -27,15 +27,8 @@ put_is sets u w l = rw (or_shl 32 (get_or sets u 0) w l)
 -- from v through u to w
 
 module _ {g : Given} {v u : ℕ} (at : Standing g v u) {s : Walker} (h : Ready g s) {w : ℕ} where
-  module _ (new : w ≡ g.new) (l : Link (graph_of g) u v w) (absent : marks.has s.found v u ≡ false) where
-    closed : Walker
-    closed = record s { found = marks.put s.found v u; moves = s.moves + 1 }
-
-    one_found : count marks (marks.put s.found v u) ≡ count marks s.found + 1
-    one_found = count_put marks s.found v u h.found_sets at.job at.database absent
-
-    closed_on : Onward g s closed
-    unfolding closed
+  module _ (new : w ≡ g.new) (l : Link (graph_of g) u v w) where
+    closed_on : Onward g s (record s { found = marks.put s.found v u })
     closed_on = record {
       ready = record {
         same = h.same;
@@ -45,22 +38,19 @@ module _ {g : Given} {v u : ℕ} (at : Standing g v u) {s : Walker} (h : Ready g
         reached_sets = h.reached_sets;
         found_sets = length-set s.found u _ ∙ h.found_sets;
         sound = record { walks = h.sound.walks; ends = λ a b e. by a b (put_only marks s.found v u h.found_sets at.job at.database a b e) };
-        fits = omega (arith, h.fits, one_found);
       };
       ahead = λ a b e. e;
       reached = λ a b e. e;
       found = put_more marks s.found v u h.found_sets at.job at.database;
       through = λ a b e. inl e;
       taken = λ a b e. inl e;
-      tally = omega (arith, one_found);
     }
       where
         by : (a b : ℕ) → ((a ≡ v) × (b ≡ u)) ⊎ (marks.has s.found a b ≡ true) → WalkEnd (graph_of g) a b
         by a b (inl e) = rw (e.0, e.1) (end_at (graph_of g) v at.via u w at.turns l new at.arrived)
         by a b (inr e) = h.sound.ends a b e
 
-    pub closing_on : Onward g s (record s { found = put_in s.found u v; moves = s.moves + 1 })
-    unfolding closed
+    pub closing_on : Onward g s (record s { found = put_in s.found u v })
     closing_on = rw (put_is s.found u v at.job) closed_on
 
     pub closing_hit : Hit (graph_of g) marks s.reached (put_in s.found u v) v u w
@@ -69,7 +59,7 @@ module _ {g : Given} {v u : ℕ} (at : Standing g v u) {s : Walker} (h : Ready g
   module _ (old : ¬ (w ≡ g.new)) (l : Link (graph_of g) u v w) (absent : marks.has s.reached w u ≡ false) where
     -- w is marked
     abbrev pub next : Walker
-    next = record s { reached = put_in s.reached u w; moves = s.moves + 1 }
+    next = record s { reached = put_in s.reached u w }
 
     is : put_in s.reached u w ≡ marks.put s.reached w u
     is = put_is s.reached u w l.job
@@ -95,7 +85,6 @@ module _ {g : Given} {v u : ℕ} (at : Standing g v u) {s : Walker} (h : Ready g
       reached_sets = length-set s.reached u _ ∙ h.reached_sets;
       found_sets = h.found_sets;
       sound = record { walks = λ a b e. by a b (only a b e); ends = h.sound.ends };
-      fits = omega (arith, h.fits, one_reached);
     }
       where
         by : (a b : ℕ) → ((a ≡ w) × (b ≡ u)) ⊎ (marks.has s.reached a b ≡ true) → Reach (graph_of g) a b
@@ -108,24 +97,14 @@ module _ {g : Given} {v u : ℕ} (at : Standing g v u) {s : Walker} (h : Ready g
     -- the search goes on from there, comes to r, and returns
 
     module _ {r : Walker} (on : Onward g next r) (done : Taken r.ahead w u) where
-      pub forward_on : Onward g s (record r { moves = r.moves + 1 })
+      pub forward_on : Onward g s r
       forward_on = record {
-        ready = record {
-          same = on.ready.same;
-          new_job = on.ready.new_job;
-          ahead_sets = on.ready.ahead_sets;
-          ahead_named = on.ready.ahead_named;
-          reached_sets = on.ready.reached_sets;
-          found_sets = on.ready.found_sets;
-          sound = on.ready.sound;
-          fits = omega (arith, on.tally, h.fits, one_reached);
-        };
+        ready = on.ready;
         ahead = on.ahead;
         reached = λ a b e. on.reached a b (more a b e);
         found = on.found;
         through = on.through;
         taken = λ a b e. stood a b (on.taken a b e);
-        tally = omega (arith, on.tally, one_reached);
       }
         where
           this : (a b : ℕ) → ((a ≡ w) × (b ≡ u)) ⊎ (marks.has s.reached a b ≡ true) → (marks.has s.reached a b ≡ true) ⊎ Taken r.ahead a b

@@ -1,18 +1,13 @@
 -- What the search has goes on from part to part: what was marked stays, and what was through stays through. Assumes nothing.
-use Prim.Native.Nat.{ℕ, ◌+◌, ◌≤◌}
+use Prim.Native.Nat.{ℕ, ◌≤◌}
 use native.Mathlib.Omega.{arith}
 use mathlib.Core.Bool.{true, false}
 use mathlib.Core.Logic.{◌⊎◌, inl, inr}
-use mathlib.Core.Path.{◌≡◌, refl}
-use Rattle.std.proofs.Common.{Fits, w32}
-use Rattle.walks.proofs.Marking.{count_le, count_mono}
+use mathlib.Core.Path.{◌≡◌}
+use Rattle.walks.proofs.Marking.{count_mono}
 use Rattle.walks.proofs.Next.{Hit}
 use Rattle.search.specs.declared.Walker.{Walker}
-use Rattle.search.specs.Visit.{marks, Given, graph_of, sets, unmarked, due, Ready, Through, Taken, Onward}
-
--- one more move fits
-pub room : (s : Walker) → s.moves ≤ due s → Fits w32 (s.moves + 1)
-room s h = record { fits = omega (arith, count_le marks s.reached, count_le marks s.found) }
+use Rattle.search.specs.Visit.{marks, Given, graph_of, sets, unmarked, Ready, Through, Taken, Onward}
 
 module _ {g : Given} where
   module _ {s r : Walker} (h : Onward g s r) where
@@ -37,7 +32,6 @@ module _ {g : Given} where
     found = λ v u e. e;
     through = λ v u e. inl e;
     taken = λ w t e. inl e;
-    tally = refl;
   }
 
   pub onward_then : {a b c : Walker} → Onward g a b → Onward g b c → Onward g a c
@@ -48,7 +42,6 @@ module _ {g : Given} where
     found = λ v u e. q.found v u (p.found v u e);
     through = λ v u e. before v u (q.through v u e);
     taken = λ w t e. stood w t (q.taken w t e);
-    tally = omega (arith, p.tally, q.tally);
   }
     where
       early : (v u : ℕ) → (sets.has a.ahead u v ≡ false) ⊎ Through g b.reached b.found v u → (sets.has a.ahead u v ≡ false) ⊎ Through g c.reached c.found v u

@@ -87,7 +87,7 @@ module _ {v u : ℕ} {s t : Walker} {m : ℕ} (at : AtSlots v u s t m) where
     slot_fresh : Fresh g t.reached v u w
     slot_fresh = at.fresh w (lowest_holds low)
 
-    -- the four ways that a turn can go
+    -- the three ways that a turn can go
 
     is_dependency : holds (get_or t.dependencies.now (u * jobs + w) 0) v ≡ holds (get_or g.dependencies (u * jobs + w) 0) v
     is_dependency = ap (λ (x : Given). holds (get_or x.dependencies (u * jobs + w) 0) v) at.onward.ready.same
@@ -110,11 +110,8 @@ module _ {v u : ℕ} {s t : Walker} {m : ℕ} (at : AtSlots v u s t m) where
           free = sym is_dependency ∙ d;
         }
 
-        turn_found : w ≡ t.job.0 → marks.has t.found v u ≡ true → Turned g v u w t t
-        turn_found new f = record { onward = onward_refl at.onward.ready; hit = λ l. record { closes = λ q. f; enters = λ old. absurd (old (new ∙ is_new)) } }
-
-        turn_closes : w ≡ t.job.0 → marks.has t.found v u ≡ false → Turned g v u w t (record t { found = put_in t.found u v; moves = t.moves + 1 })
-        turn_closes new f = record { onward = closing_on st at.onward.ready (new ∙ is_new) slot_link f; hit = λ l. closing_hit st at.onward.ready (new ∙ is_new) slot_link f }
+        turn_closes : w ≡ t.job.0 → Turned g v u w t (record t { found = put_in t.found u v })
+        turn_closes new = record { onward = closing_on st at.onward.ready (new ∙ is_new) slot_link; hit = λ l. closing_hit st at.onward.ready (new ∙ is_new) slot_link }
 
         -- what the visit of w asks, and that fewer pairs are left to it
 
@@ -124,7 +121,7 @@ module _ {v u : ℕ} {s t : Walker} {m : ℕ} (at : AtSlots v u s t m) where
 
           -- w is marked
           abbrev goes : Walker
-          goes = record t { reached = put_in t.reached u w; moves = t.moves + 1 }
+          goes = record t { reached = put_in t.reached u w }
 
           pub forward_asked : (unmarked goes.reached < unmarked s.reached) × BeforeJob goes w (Some (record { 0 = u }))
           forward_asked = (
@@ -135,7 +132,7 @@ module _ {v u : ℕ} {s t : Walker} {m : ℕ} (at : AtSlots v u s t m) where
             },
           )
 
-          turn_forward : (r : Walker) → JobVisited goes w (Some (record { 0 = u })) r → Turned g v u w t (record r { moves = r.moves + 1 })
+          turn_forward : (r : Walker) → JobVisited goes w (Some (record { 0 = u })) r → Turned g v u w t r
           turn_forward r k =
               let on : Onward g goes r = subst (λ (x : Given). Onward x goes r) at.onward.ready.same k.onward in
               record {
@@ -186,21 +183,18 @@ module _ {v u : ℕ} {s t : Walker} {m : ℕ} (at : AtSlots v u s t m) where
           by j l (inl h) = try_or_hit now.onward.ready o j l.job l.differ h
           by j l (inr h) = inr h
 
-      -- what is left after each of the four ways
+      -- what is left after each of the three ways
 
       module _ (st : Standing g v u) where
         pub slots_held : holds (get_or t.dependencies.now (u * jobs + w) 0) v ≡ true → AtSlots v u s t x
         slots_held d = slots_rest refl (turn_held st d)
 
         module _ (d : holds (get_or t.dependencies.now (u * jobs + w) 0) v ≡ false) where
-          pub slots_found : w ≡ t.job.0 → marks.has t.found v u ≡ true → AtSlots v u s t x
-          slots_found new f = slots_rest refl (turn_found st d new f)
+          pub slots_closed : w ≡ t.job.0 → AtSlots v u s (record t { found = put_in t.found u v }) x
+          slots_closed new = slots_rest refl (turn_closes st d new)
 
-          pub slots_closed : w ≡ t.job.0 → marks.has t.found v u ≡ false → AtSlots v u s (record t { found = put_in t.found u v; moves = t.moves + 1 }) x
-          slots_closed new f = slots_rest refl (turn_closes st d new f)
-
-          pub slots_forward : ¬ (w ≡ t.job.0) → {r : Walker} {k : ℕ} → JobVisited (record t { reached = put_in t.reached u w; moves = t.moves + 1 }) w (Some (record { 0 = u })) r
-              → Others x (get_or r.reached u 0) v k → AtSlots v u s (record r { moves = r.moves + 1 }) k
+          pub slots_forward : ¬ (w ≡ t.job.0) → {r : Walker} {k : ℕ} → JobVisited (record t { reached = put_in t.reached u w }) w (Some (record { 0 = u })) r
+              → Others x (get_or r.reached u 0) v k → AtSlots v u s r k
           slots_forward old {r} visited o = slots_turn o (turn_forward st d old r visited)
 
   pub slots_done : m ≡ 0 → DatabaseVisited s v u t

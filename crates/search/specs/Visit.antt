@@ -58,7 +58,7 @@ pub record Taken (ahead : List ℕ) (v t : ℕ) : Type 0 where
   pub each : (u : ℕ) → ¬ (u ≡ t) → sets.has ahead u v ≡ false
 
 module _ (g : Given) where
-  -- s works on what is given; ahead of a slot are only databases that it names; the marks tell of walks only; and there are no more moves than the marks take, so they fit into their number
+  -- s works on what is given; ahead of a slot are only databases that it names; and the marks tell of walks only
   pub record Ready (s : Walker) : Type 0 where
     pub same : given s ≡ g
     pub new_job : g.new < jobs
@@ -67,7 +67,6 @@ module _ (g : Given) where
     pub reached_sets : length s.reached ≡ databases
     pub found_sets : length s.found ≡ databases
     pub sound : Sound (graph_of g) marks s.reached s.found
-    pub fits : s.moves ≤ due s
 
   -- v is the new job, or a walk comes to it through `via`
   abbrev pub Arrived : ℕ → ℕ → Type 0
@@ -94,7 +93,6 @@ module _ (g : Given) where
     pub found : (v u : ℕ) → marks.has s.found v u ≡ true → marks.has r.found v u ≡ true
     pub through : (v u : ℕ) → sets.has r.ahead u v ≡ false → (sets.has s.ahead u v ≡ false) ⊎ Through r.reached r.found v u
     pub taken : (w t : ℕ) → marks.has r.reached w t ≡ true → (marks.has s.reached w t ≡ true) ⊎ Taken r.ahead w t
-    pub tally : r.moves + due s ≡ s.moves + due r
 
 -- before and after the visit of job v, come to through `via`
 pub record BeforeJob (s : Walker) (v : ℕ) (via : Option Database) : Type 0 where

@@ -1,10 +1,11 @@
 #![tactic(auto)]
 // The opening search of document 01. Visiting a job leads to its databases, and visiting a database leads to jobs again.
-ghost use Rattle.std.specs.Prelude.{◌≡◌, ◌<◌};
+ghost use Rattle.std.specs.Prelude.{◌≡◌, ◌<◌, ◌≤◌, ◌*◌};
 ghost use Rattle.mask.specs.Member.{holds, excluding};
 ghost use Rattle.search.specs.Limits.{jobs, databases};
 ghost use Rattle.search.specs.Search.{sought};
-ghost use Rattle.search.specs.Visit.{put_ahead, all_ahead, turned, BeforeJob, JobVisited, BeforeDatabase, DatabaseVisited, Others};
+ghost use Rattle.walks.specs.Marks.{count};
+ghost use Rattle.search.specs.Visit.{marks, put_ahead, all_ahead, turned, due, BeforeJob, JobVisited, BeforeDatabase, DatabaseVisited, Others};
 
 use mask::Set;
 use numbers::{Database, Slot};
@@ -29,7 +30,6 @@ pub fn search(named: &[u32; Database::COUNT], dependencies: &[u32; STEPS], n: Sl
         ahead: [0; Slot::COUNT],
         reached: [0; Database::COUNT],
         found: [0; Database::COUNT],
-        moves: 0,
     };
     if (n.0 as usize) < Slot::COUNT {
         walker.put_all_ahead();
@@ -37,7 +37,7 @@ pub fn search(named: &[u32; Database::COUNT], dependencies: &[u32; STEPS], n: Sl
     }
     Sought {
         found: walker.found,
-        moves: walker.moves,
+        moves: walker.moves(),
     }
 }
 
@@ -56,7 +56,6 @@ struct Walker<'a> {
     reached: [u32; Database::COUNT],
     // At u: those with a found dependency to the new job at u.
     found: [u32; Database::COUNT],
-    moves: u32,
 }
 
 impl Walker<'_> {
@@ -88,7 +87,7 @@ impl Walker<'_> {
 
     // From database u, come to from slot v which names it, to the other slots that name it. A visit reaches more of them: these are taken off what is left.
     #[cycle(visit_database_visit_job)]
-    #[tactic(auto, using(crate::proofs::Onward::room, crate::proofs::Trying::lowest_out))]
+    #[tactic(auto, using(crate::proofs::Trying::lowest_out))]
     fn visit_database(&mut self, v: Slot, u: Database)
         requires { BeforeDatabase self.old v.0 u.0 }
         ensures { DatabaseVisited self.old v.0 u.0 self.new }
@@ -104,19 +103,34 @@ impl Walker<'_> {
                 continue;
             }
             if w == self.job {
-                if !has(self.found[k], v) {
-                    self.found[k] |= 1 << v.0;
-                    self.moves += 1;
-                }
+                self.found[k] |= 1 << v.0;
             } else {
                 self.reached[k] |= 1 << w.0;
-                self.moves += 1;
                 self.visit_job(w, Some(u));
-                self.moves += 1;
                 left = others(left, self.reached[k], v);
             }
         }
     }
+
+    // A forward move and a return for each slot that is reached, a closing move for each that is found. Counted here, they cost the visits nothing.
+    fn moves(&self) -> u32
+        ensures { result ≡ due self.now }
+    {
+        2 * count(&self.reached) + count(&self.found)
+    }
+}
+
+// How many slots there are in the sets.
+#[tactic(auto, using(mask::proofs::Size::size_le), unfolding(loops::specs::Sum::sum))]
+fn count(sets: &[u32; Database::COUNT]) -> u32
+    ensures members { result ≡ count marks sets.now }
+    ensures most { result ≤ jobs * databases }
+{
+    let mut total = 0;
+    for slots in sets {
+        total += slots.size();
+    }
+    total
 }
 
 // Database u is ahead of each of the slots.

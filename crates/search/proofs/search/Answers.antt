@@ -7,7 +7,8 @@ visit_job-requires c = rw c.put_all_ahead.ensures (begin_asked _ _ _ c.if-n-lt-C
 
 pub returns : goal.returns
 returns c =
-    elim c.if-n-lt-COUNT.branch [
+    rw c.moves.ensures
+    (elim c.if-n-lt-COUNT.branch [
       | then-n-lt-COUNT w ↦ rw w.walker-is (search_some _ _ _ (rw w.put_all_ahead.ensures at w.visit_job.ensures))
       | else-n-lt-COUNT w ↦ rw w.walker-is (search_none _ _ _ w.if-n-lt-COUNT.false)
-    ]
+    ])

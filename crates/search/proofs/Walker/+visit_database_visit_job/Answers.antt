@@ -1,6 +1,6 @@
 use Rattle.std.proofs.Common.{sym, ◌∙◌, arith, rules}
 use Rattle.search.proofs.Onward.{unmarked_le}
-use Rattle.search.proofs.Slots.{slots_start, slots_held, slots_found, slots_closed, forward_asked, slots_forward, slots_done}
+use Rattle.search.proofs.Slots.{slots_start, slots_held, slots_closed, forward_asked, slots_forward, slots_done}
 use Rattle.search.proofs.Databases.{databases_start, taking_ready, database_asked, databases_turn, databases_done}
 use Rattle.search.proofs.Walker.+visit_database_visit_job.Goals as goal
 
@@ -14,15 +14,10 @@ pub visit_database-loop-left-preserved-then-has : goal.visit_database-loop-left-
 visit_database-loop-left-preserved-then-has t c =
     slots_held c.loop-left.invariant c.loop-left-test.true c.lowest.ensures c.rest-left.ensures c.requires.standing (sym c.has.ensures ∙ c.if-has.true)
 
--- the new job, and the dependency is found now
-pub visit_database-loop-left-preserved-then-not-has : goal.visit_database-loop-left-preserved-then-not-has
-visit_database-loop-left-preserved-then-not-has t c =
-    slots_closed c.loop-left.invariant c.loop-left-test.true c.lowest.ensures c.rest-left.ensures c.requires.standing (sym c.has.ensures ∙ c.if-has.false) (search rules) (sym c.has-then-eq.ensures ∙ c.if-not-has.true)
-
--- the new job, and the dependency is found already
-pub visit_database-loop-left-preserved-else-not-has : goal.visit_database-loop-left-preserved-else-not-has
-visit_database-loop-left-preserved-else-not-has t c =
-    slots_found c.loop-left.invariant c.loop-left-test.true c.lowest.ensures c.rest-left.ensures c.requires.standing (sym c.has.ensures ∙ c.if-has.false) (search rules) (sym c.has-then-eq.ensures ∙ c.if-not-has.false)
+-- the new job
+pub visit_database-loop-left-preserved-then-eq : goal.visit_database-loop-left-preserved-then-eq
+visit_database-loop-left-preserved-then-eq t c =
+    slots_closed c.loop-left.invariant c.loop-left-test.true c.lowest.ensures c.rest-left.ensures c.requires.standing (sym c.has.ensures ∙ c.if-has.false) (search rules)
 
 -- another job: it is visited
 pub visit_database-visit_job-requires : goal.visit_database-visit_job-requires
