@@ -19,7 +19,7 @@ fn put_word<N: Integer>(n: N, end: u8, out: &mut [u8], at: usize) -> usize
     stop + 1
 }
 
-// Writes a line, and returns the index after it. No `write!`: to a slice it tells no byte that it wrote, and a String takes heap.
+// Writes a line, and returns the index after it. No `write!`: to a slice it gives a Result to throw away and tells no byte, and a String takes heap.
 pub(crate) fn put_line(index: u64, said: Said, out: &mut [u8], at: usize) -> usize
     requires { at + longest ≤ length out.old }
     ensures { (result ≡ at + length (line index said.refusal said.first said.second)) × (result ≤ at + longest) × (out.new ≡ put out.old at (line index said.refusal said.first said.second)) }
