@@ -3,7 +3,7 @@ ghost use Rattle.std.specs.Prelude.{◌≡◌, ℕ, ◌+◌, ◌%◌, ◌^◌, �
 ghost use Rattle.layout.specs.Put.{put};
 ghost use Rattle.layout.specs.Bytes.{bytes_of, number_at};
 
-// What stands in a buffer as the bytes of its number, as many as its type has.
+// What stands in a buffer as the bytes of its number, as many as its type has. An index and not a part of the buffer, since the contract tells what is left of all of it.
 pub(crate) trait Number: Copy + Default {
     const WIDTH: usize;
 

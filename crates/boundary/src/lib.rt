@@ -24,6 +24,7 @@ const STATE_SIZE: usize = 2406;
 
 const ROW_SIZE: usize = 80;
 
+// C gets a number, 0 where something was written: host/unkenlaterne.h has both.
 const WRONG_LENGTH: u8 = 10;
 
 // Plays whole records from the state, and writes a row for each to the answers, and the state left over the one given.
@@ -77,6 +78,7 @@ fn call(state: &mut [u8], asked: Request, answer: &mut [u8]) -> u8
     0
 }
 
+// C has a name and plain numbers for each of the four calls.
 #[unsafe(no_mangle)]
 pub extern "C" fn open_job(state: &mut [u8], mask: u16, answer: &mut [u8]) -> u8
     ensures { record { code = result; state = state.new; answers = answer.new } ≡ called (Some (open_job mask)) state.old answer.old }
@@ -107,7 +109,7 @@ pub extern "C" fn close_job(state: &mut [u8], ticket: u16, answer: &mut [u8]) ->
     call(state, Request::Close(Ticket(ticket)), answer)
 }
 
-// How many moves the next opening can take at most.
+// How many moves the next opening can take at most. C has no Option: of a wrong length it is the largest number.
 #[unsafe(no_mangle)]
 pub extern "C" fn most_moves(state: &[u8]) -> u32
     ensures { result ≡ moves_at_most state.now }

@@ -9,7 +9,7 @@ use coordinator::Coordinator;
 use record::request::Request;
 use record::tested::Tested;
 
-// Plays whole records, and writes a row for each.
+// Plays whole records, and writes a row for each. `lines` has a loop of its own: a line begins where the one before it ended, and what they share is `Tested`.
 pub(crate) fn play_all(start: Coordinator, records: &[u8], out: &mut [u8]) -> Coordinator
     requires { length out.old ≡ row_size * (length records.now / 4) }
     ensures { (out.new ≡ rows start records.now (length records.now / 4)) × (result ≡ state_after start records.now (length records.now / 4)) }

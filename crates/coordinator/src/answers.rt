@@ -18,7 +18,7 @@ pub enum Asked {
     Held,
 }
 
-// How many jobs were closed, and their tickets in order, with zeros after them.
+// How many jobs were closed, and their tickets in order, with zeros after them: there is no heap for a Vec.
 #[derive(Clone, Copy, Debug, PartialEq, Eq)]
 pub struct Closed {
     pub count: u32,
@@ -26,6 +26,7 @@ pub struct Closed {
 }
 
 // A call's answer or why it was refused, and the state left: a refusal leaves the one handed in.
+// Each of the four calls by value makes one from the call in place. One function for the four, given that call as a closure, would need a contract over any closure, longer than their three lines each.
 #[derive(Clone, Copy, Debug, PartialEq, Eq)]
 pub struct After<A> {
     pub answer: Result<A, Refusal>,

@@ -26,7 +26,7 @@ impl Coordinator {
         Asked::Released
     }
 
-    // In place, given whether the state is sound.
+    // In place, given whether the state is sound. A flag, since the answer is promised for both, whatever the test says (`Determined`).
     pub fn ask_tested(
         &mut self,
         sound: bool,
@@ -43,7 +43,7 @@ impl Coordinator {
         Ok(self.ask_for(Step { slot, database }))
     }
 
-    // Marks the step asked, and releases it if it may go.
+    // Marks the step asked, and releases it if it may go. Ticket and database by themselves, as README has the call.
     pub fn ask(mut self, ticket: Ticket, database: Database) -> After<Asked>
         ensures { result ≡ after_ask self ticket.0 database.0 }
     {

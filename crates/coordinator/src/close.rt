@@ -12,7 +12,7 @@ use numbers::Ticket;
 use refusals::Refusal;
 
 impl Coordinator {
-    // In place, given whether the state is sound.
+    // In place, given whether the state is sound. A flag, since the answer is promised for both, whatever the test says (`Determined`).
     pub fn close_tested(&mut self, sound: bool, ticket: Ticket) -> Result<Option<Closed>, Refusal>
         ensures { ◌≡◌ {A = After (Option Closed)} (record { answer = result; state = self.new }) (after_close_tested sound self.old ticket.0) }
     {

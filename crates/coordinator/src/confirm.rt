@@ -35,7 +35,7 @@ impl Coordinator {
         Some(Ticket(self.tickets[slot.0 as usize]))
     }
 
-    // In place, given whether the state is sound.
+    // In place, given whether the state is sound. A flag, since the answer is promised for both, whatever the test says (`Determined`).
     pub fn confirm_tested(
         &mut self,
         sound: bool,
@@ -53,7 +53,7 @@ impl Coordinator {
         Ok(self.confirm_at(Step { slot, database }))
     }
 
-    // Marks the step confirmed, and releases the first of those at that database that may go then.
+    // Marks the step confirmed, and releases the first of those at that database that may go then. Ticket and database by themselves, as README has the call.
     pub fn confirm(mut self, ticket: Ticket, database: Database) -> After<Option<Ticket>>
         ensures { result ≡ after_confirm self ticket.0 database.0 }
     {

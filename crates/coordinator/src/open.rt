@@ -38,7 +38,7 @@ impl Coordinator {
         }
     }
 
-    // In place, given whether the state is sound.
+    // In place, given whether the state is sound. A flag, since the answer is promised for both, whatever the test says (`Determined`).
     pub fn open_tested(&mut self, sound: bool, mask: u16) -> Result<Opened, Refusal>
         ensures { ◌≡◌ {A = After Opened} (record { answer = result; state = self.new }) (after_open_tested sound self.old mask) }
     {

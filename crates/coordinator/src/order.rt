@@ -11,7 +11,7 @@ use crate::Coordinator;
 use mask::Set;
 use numbers::Slot;
 
-// Where slot j stands. No branch: all places are compared, and the lowest of those found is taken.
+// Where slot j stands. No branch: all places are compared, and the lowest of those found is taken. JOBS where it stands nowhere, as `removed` has it: then none moves up.
 pub(crate) fn place(order: &[u8; Coordinator::JOBS], j: Slot) -> usize
     ensures { result ≡ lowest jobs (gather jobs (λ i. tally (eqb (entry order.now i) j.0))) }
 {
@@ -19,7 +19,7 @@ pub(crate) fn place(order: &[u8; Coordinator::JOBS], j: Slot) -> usize
     places.lowest() as usize
 }
 
-// What comes to stand at place i when those after p move up.
+// What comes to stand at place i when those after p move up; beyond the last place stands 0, as `moved_up` has it.
 fn next(order: &[u8; Coordinator::JOBS], p: usize, i: usize) -> u8
     requires { (i < jobs) × (length order.now ≡ jobs) }
     ensures { result ≡ entry order.now (i + tally (not (ltb i p))) }

@@ -23,7 +23,7 @@ pub(crate) fn mark(sets: &mut [u32; Coordinator::DATABASES], step: Step)
     sets[step.database.0 as usize] |= 1 << step.slot.0;
 }
 
-// At the step's database, its job goes before each of the later ones.
+// At the step's database, its job goes before each of the later ones. As `put_ahead` of crate search, with words of 32 for 16: one for both would be lent a part of the table, and be longer than the two.
 fn lead_to(dependencies: &mut [u32; Coordinator::STEPS], step: Step, later: u32)
     ensures { dependencies.new ≡ lead_to step.database.0 step.slot.0 later dependencies.old }
 {

@@ -7,7 +7,7 @@ use crate::Coordinator;
 use mask::Set;
 use numbers::{Database, Slot};
 
-// The set at database k; beyond the last database there is none.
+// The set at database k; beyond the last database the empty one, as `set_at` has it. `ticket_at` is the same chain of two methods: a generic one would be longer than both.
 pub(crate) fn at(sets: &[u32; Coordinator::DATABASES], k: Database) -> u32
     ensures { result ≡ set_at sets.now k.0 }
 {

@@ -17,7 +17,7 @@ use text::put_line;
 // The bytes that a line takes at most.
 const LONGEST: usize = 47;
 
-// What playing some records tells: the next index, and how many bytes were written.
+// What playing some records tells: the next index, and how many bytes were written to the buffer lent, as std's `Read` tells it.
 #[derive(Clone, Copy, Debug, PartialEq, Eq)]
 pub struct Played {
     pub index: u64,

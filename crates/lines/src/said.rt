@@ -6,6 +6,7 @@ ghost use Rattle.lines.specs.Said.{said_of};
 use record::answer::Numbers;
 use record::request::{Request, UnknownKind};
 
+// The refusal is a number and no `Refusal`: document 01 has 11 and 12 for what is no call. `put_line` writes it, so it derives nothing to print.
 #[derive(Clone, Copy)]
 pub(crate) struct Said {
     pub refusal: u8,

@@ -6,7 +6,7 @@ ghost use Rattle.lines.specs.Line.{line, longest};
 use crate::said::Said;
 use itoa::{Buffer, Integer};
 
-// Writes n in decimal and the byte end, and returns the index after it.
+// Writes n in decimal and the byte end, and returns the index after it. An index and not a part of the buffer, since the contract tells what is left of all of it.
 fn put_word<N: Integer>(n: N, end: u8, out: &mut [u8], at: usize) -> usize
     requires { at + N.MAX_STR_LEN < length out.old }
     ensures { (result ≡ at + length (N.text n ++ end ∷ [])) × (result ≤ at + N.MAX_STR_LEN + 1) × (out.new ≡ put out.old at (N.text n ++ end ∷ [])) }
@@ -19,7 +19,7 @@ fn put_word<N: Integer>(n: N, end: u8, out: &mut [u8], at: usize) -> usize
     stop + 1
 }
 
-// Writes a line, and returns the index after it.
+// Writes a line, and returns the index after it. No `write!`: to a slice it gives a Result to throw away and tells no byte, and a String takes heap.
 pub(crate) fn put_line(index: u64, said: Said, out: &mut [u8], at: usize) -> usize
     requires { at + longest ≤ length out.old }
     ensures { (result ≡ at + length (line index said.refusal said.first said.second)) × (result ≤ at + longest) × (out.new ≡ put out.old at (line index said.refusal said.first said.second)) }

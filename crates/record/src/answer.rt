@@ -10,7 +10,7 @@ use coordinator::answers::{Asked, Closed, Opened};
 use numbers::Ticket;
 use refusals::Refusal;
 
-// The numbers of an answer, zeros where a call has nothing to say.
+// The numbers of an answer, zeros where a call has nothing to say. No Option and no bool: it is the row that C reads, told by `numbers_of`.
 #[derive(Clone, Copy, Debug, PartialEq, Eq, Default)]
 pub struct Numbers {
     pub refusal: u8,
@@ -21,7 +21,7 @@ pub struct Numbers {
     pub moves: u32,
 }
 
-// The numbers, and the tickets closed in order with zeros after them.
+// The numbers, and the tickets closed in order with zeros after them: the row has room for all, since there is no heap.
 #[derive(Clone, Copy, Debug, PartialEq, Eq)]
 pub struct Answer {
     pub numbers: Numbers,

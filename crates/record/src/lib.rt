@@ -12,7 +12,7 @@ use coordinator::Coordinator;
 use request::{Request, UnknownKind};
 
 impl Request {
-    // Plays the call in place, given whether the state is sound.
+    // Plays the call in place, given whether the state is sound: a flag, as the four calls take it. `Tested` holds it with its state.
     pub fn play(self, sound: bool, state: &mut Coordinator) -> Answer
         ensures { Plays (answer_tested sound state.old (Some (call self))) result state.new }
     {

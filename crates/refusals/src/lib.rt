@@ -1,5 +1,5 @@
 #![tactic(auto)]
-// Refusals, by the rows of document 01's table: the first that applies, if one does. What a row asks is told in plain values; there is no state here.
+// Refusals, by the rows of document 01's table: the first that applies, if one does. What a row asks is told in plain values, as `slot_rows`, `step_rows` and `job_rows` have it; there is no state here.
 mod refusal;
 
 ghost use Rattle.std.specs.Prelude.{◌≡◌};

@@ -10,6 +10,7 @@ ghost use Rattle.search.specs.Visit.{marks, put_ahead, all_ahead, turned, due, B
 use mask::Set;
 use numbers::{Database, STEPS, Slot};
 
+// By database, the slots with a found dependency to the new job; and the moves. `sought` has them so.
 #[derive(Clone, Copy, Debug, PartialEq, Eq)]
 pub struct Sought {
     pub found: [u32; Database::COUNT],

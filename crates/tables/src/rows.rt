@@ -1,4 +1,4 @@
-// The dependencies at one database, a set for each slot.
+// The dependencies at one database, a set for each slot. That b is a slot is asked by three functions, each of which hands it to the next: a type for it would be made in each turn of the loop.
 ghost use Rattle.std.specs.Prelude.{◌≡◌, ◌<◌, ◌==◌, length};
 ghost use Rattle.mask.specs.Members.{union_of};
 ghost use Rattle.tables.specs.Limits.{jobs};
@@ -16,6 +16,7 @@ pub(crate) struct Steps {
     pub(crate) under_way: u32,
 }
 
+// As `slots::open_slots` of a state: a chain of one line each.
 #[tactic(auto, using(mask::proofs::Union::fold_union))]
 fn are_empty(rows: &[u32]) -> bool
     requires { length rows.now ≡ jobs }

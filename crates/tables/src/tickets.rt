@@ -41,7 +41,7 @@ impl Tickets<'_> {
         self.slots | self.sharers(0) == u32::MAX
     }
 
-    // Tickets that are equal are equal modulo 64, so slot j is looked at closely only where that was seen before.
+    // Tickets that are equal are equal modulo 64, so slot j is looked at closely only where that was seen before. That j is a slot, the loop over the members knows.
     #[tactic(auto, using(crate::proofs::Owning::new_or_not))]
     fn is_new(self, seen: u64, j: u8) -> bool
         requires { j < jobs }
