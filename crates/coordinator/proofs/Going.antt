@@ -1,7 +1,6 @@
 -- The steps that may go are gathered over all slots at once, and those that do not wait are taken off afterwards. Assumes nothing.
 use mathlib.Core.Path.{◌≡◌, sym, ◌∙◌}
 use mathlib.Core.Bool.{Bool, not, ◌&&◌}
-use mathlib.Core.List.{List}
 use Prim.Native.Nat.{ℕ, ◌+◌, ◌*◌, ◌^◌, ◌<◌}
 use native.Mathlib.Omega.{arith}
 use lib.Bits.{bit_and, and_lt}
@@ -13,8 +12,9 @@ use Rattle.mask.proofs.Holds.{holds_and, holds_less}
 use Rattle.mask.proofs.Gather.{gathered_lt, holds_gather}
 use Rattle.mask.proofs.Equal.{same_members}
 use Rattle.coordinator.specs.Limits.{jobs}
-use Rattle.coordinator.specs.Views.{entry}
-use Rattle.coordinator.specs.Tables.{going_in}
+use Rattle.coordinator.specs.declared.Coordinator.{Coordinator}
+use Rattle.coordinator.specs.Views.{entry, asked, released, into}
+use Rattle.coordinator.specs.Release.{may_go, may_go_at}
 
 less_gathered : (n a b : ℕ) (p : ℕ → Bool) → a < 2 ^ n → b < 2 ^ n
     → bit_and (less n a b) (gather n (λ j. tally (p j))) ≡ gather n (λ j. tally (holds a j && not (holds b j) && p j))
@@ -26,8 +26,8 @@ less_gathered n a b p ha hb =
     (gathered_lt q n)
     (λ j l. holds_and (less n a b) g j ∙ rw (holds_less n a b j hb l, holds_gather p n j l) (sym (holds_gather q n j l)))
 
-pub going_is : (d : List ℕ) (k asked released confirmed waiting free : ℕ) → asked < 2 ^ jobs → released < 2 ^ jobs → waiting ≡ less jobs asked released
-    → free ≡ gather jobs (λ j. tally (within jobs (entry d (k * jobs + j)) confirmed)) → bit_and waiting free ≡ going_in d k asked released confirmed
-unfolding going_in
-going_is d k asked released confirmed waiting free a r e f =
-    rw (e, f) (less_gathered jobs asked released (λ j. within jobs (entry d (k * jobs + j)) confirmed) a r)
+pub going_is : (s : Coordinator) (k waiting free : ℕ) → entry s.asked k < 2 ^ jobs → entry s.released k < 2 ^ jobs → waiting ≡ less jobs (entry s.asked k) (entry s.released k)
+    → free ≡ gather jobs (λ j. tally (within jobs (entry s.dependencies (k * jobs + j)) (entry s.confirmed k))) → bit_and waiting free ≡ may_go_at s k
+unfolding may_go_at may_go into asked released
+going_is s k waiting free a r e f =
+    rw (e, f) (less_gathered jobs (entry s.asked k) (entry s.released k) (λ j. within jobs (entry s.dependencies (k * jobs + j)) (entry s.confirmed k)) a r)

@@ -14,11 +14,6 @@ set_at sets k = elim (ltb k databases) [ true ↦ entry sets k | false ↦ 0 ]
 unfoldable pub ticket_at : List ℕ → ℕ → ℕ
 ticket_at tickets j = elim (ltb j jobs) [ true ↦ entry tickets j | false ↦ 0 ]
 
--- the steps at database k that are asked, unreleased, and may go
-unfoldable pub going_in : List ℕ → ℕ → ℕ → ℕ → ℕ → ℕ
-going_in dependencies k asked released confirmed =
-    gather jobs (λ j. tally (holds asked j && not (holds released j) && within jobs (entry dependencies (k * jobs + j)) confirmed))
-
 -- no dependency goes into slot j at any database; the held slots of which that is so
 unfoldable pub may_close_in : List ℕ → ℕ → Bool
 may_close_in dependencies j = every databases (λ k. eqb (entry dependencies (k * jobs + j)) 0)

@@ -25,14 +25,7 @@ impl Coordinator {
         ensures { ◌≡◌ {A = After (Option Ticket)} (record { answer = Ok result; state = self.new }) (confirmed_at self.old step.slot.0 step.database.0) }
     {
         release::mark(&mut self.confirmed, step);
-        let at = step.database.0 as usize;
-        let free = release::going_of(
-            &self.dependencies,
-            at,
-            self.asked[at],
-            self.released[at],
-            self.confirmed[at],
-        );
+        let free = self.going_beside(step);
         if free == 0 {
             return None;
         }

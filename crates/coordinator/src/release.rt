@@ -1,10 +1,9 @@
 // What ask and confirm share: when a step may go, which of those that wait may, and what a release does to the tables.
-ghost use Rattle.std.specs.Prelude.{◌≡◌, ◌<◌};
+ghost use Rattle.std.specs.Prelude.{◌≡◌};
 ghost use Rattle.mask.specs.Member.{within};
-ghost use Rattle.coordinator.specs.Limits.{jobs, databases};
+ghost use Rattle.coordinator.specs.Limits.{jobs};
 ghost use Rattle.coordinator.specs.Change.{mark, lead_to};
-ghost use Rattle.coordinator.specs.Tables.{going_in};
-ghost use Rattle.coordinator.specs.Release.{release};
+ghost use Rattle.coordinator.specs.Release.{may_go_at, release};
 
 use crate::Coordinator;
 use crate::steps::Step;
@@ -34,22 +33,6 @@ fn lead_to(dependencies: &mut [u32; Coordinator::STEPS], step: Step, later: u32)
     }
 }
 
-// The asked and unreleased steps at database k that may go. All rows are read without a branch: that is faster than to pick those that wait.
-pub(crate) fn going_of(
-    dependencies: &[u32; Coordinator::STEPS],
-    k: usize,
-    asked: u32,
-    released: u32,
-    confirmed: u32,
-) -> u32
-    requires { k < databases }
-    ensures { result ≡ going_in dependencies.now k asked released confirmed }
-{
-    let first = k * Coordinator::JOBS;
-    let free = mask::gathered(|j| may_go(dependencies[first + j], confirmed));
-    asked.less(released) & free
-}
-
 impl Coordinator {
     // The step goes, before each that names its database and is not released.
     #[tactic(auto, unfolding(crate::specs::Release::release, crate::specs::Change::mark_released, crate::specs::Change::with_dependencies))]
@@ -60,5 +43,16 @@ impl Coordinator {
         let at = step.database.0 as usize;
         let later = self.named[at].less(self.released[at]);
         lead_to(&mut self.dependencies, step, later);
+    }
+
+    // The asked and unreleased steps at the step's database that may go, by their slots. All rows are read without a branch: that is faster than to pick those that wait.
+    pub(crate) fn going_beside(&self, step: Step) -> u32
+        ensures { result ≡ may_go_at self.now step.database.0 }
+    {
+        let at = step.database.0 as usize;
+        let first = at * Coordinator::JOBS;
+        let confirmed = self.confirmed[at];
+        let free = mask::gathered(|j| may_go(self.dependencies[first + j], confirmed));
+        self.asked[at].less(self.released[at]) & free
     }
 }
