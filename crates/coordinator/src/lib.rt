@@ -6,7 +6,6 @@ mod bound;
 mod cascade;
 pub mod close;
 pub mod confirm;
-mod count;
 mod enter;
 mod may_close;
 pub mod open;

@@ -9,7 +9,7 @@ ghost use Rattle.coordinator.specs.Open.{free_slot, accepted, after_open, after_
 
 use crate::answers::{After, Opened};
 use crate::steps::Job;
-use crate::{Coordinator, count, enter, slots, tickets};
+use crate::{Coordinator, enter, slots, tickets};
 use mask::Set;
 use refusals::Refusal;
 
@@ -30,7 +30,7 @@ impl Coordinator {
         enter::lead_released(&mut self.dependencies, &self.released, mask, job);
         let sought = search::search(&self.named, &self.dependencies, slot);
         enter::lead_found(&mut self.dependencies, &sought.found, job);
-        let added = count::count_all(&sought.found);
+        let added = search::count_all(&sought.found);
         Opened {
             ticket,
             added,

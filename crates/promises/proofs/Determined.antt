@@ -36,6 +36,7 @@ determined = record {
   of_step = λ sound found k names applies own. equation _;
   of_close = λ sound found confirmed held. equation _;
   refusal_number = λ refusal. equation _;
+  count_all = λ sets. equation _;
   search = λ named dependencies n. equation _;
   absent = λ held t. equation _;
   next_number = λ t. equation _;

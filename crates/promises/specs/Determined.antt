@@ -1,7 +1,7 @@
 -- Any two results that meet a contract are equal, for every public function of the coordinator and of the floors below it, as their sources have it.
 -- Assumes nothing: these are definitions.
-use Rattle.std.specs.Prelude.{◌%◌, ◌^◌, ℕ, Bool, List, ◌≡◌, Option, Result}
-use Rattle.loops.specs.Sum.{tally}
+use Rattle.std.specs.Prelude.{get_or, ◌%◌, ◌^◌, ℕ, Bool, List, ◌≡◌, Option, Result}
+use Rattle.loops.specs.Sum.{tally, sum}
 use Rattle.mask.specs.Members.{gather}
 use Rattle.refusals.specs.Number.{number}
 use Rattle.mask.specs.Member.{holds, joined, excluding, less, lowest, size}
@@ -12,7 +12,7 @@ use Rattle.search.specs.declared.Sought.{Sought}
 use Rattle.search.specs.Search.{sought}
 use Rattle.tables.specs.Tables.{open_in, holders_in}
 use Rattle.tables.specs.Test.{sound_in}
-use Rattle.tables.specs.Limits.{jobs}
+use Rattle.tables.specs.Limits.{jobs, databases}
 use Rattle.refusals.specs.declared.refusal.Refusal.{Refusal}
 use Rattle.refusals.specs.Refusal.{slot_refusal, step_refusal, job_refusal}
 use Rattle.refusals.specs.Outcome.{outcome}
@@ -58,6 +58,7 @@ pub record Determined : Type 0 where
   pub of_close : (sound : Bool) (found : ℕ) (confirmed held : Bool) → Determines (λ (r : Result Unit Refusal). r ≡ outcome (job_refusal sound found confirmed held))
   pub refusal_number : (refusal : Refusal) → Determines (λ (r : ℕ). r ≡ number refusal)
   -- the opening search
+  pub count_all : (sets : List ℕ) → Determines (λ (r : ℕ). r ≡ sum databases (λ u. size jobs (get_or sets u 0)))
   pub search : (named dependencies : List ℕ) (n : ℕ) → Determines (λ (r : Sought). r ≡ sought named dependencies n)
   -- the number maker: the ticket that `take` gives, and the number maker that it leaves
   pub absent : (held : List ℕ) (t : ℕ) → Determines (λ (r : Bool). r ≡ absent_in held t)

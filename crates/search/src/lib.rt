@@ -1,12 +1,14 @@
 #![tactic(auto)]
 // The opening search of document 01. Visiting a job leads to its databases, and visiting a database leads to jobs again.
-ghost use Rattle.std.specs.Prelude.{◌≡◌, ◌<◌, ◌≤◌, ◌*◌};
+mod count;
+
+ghost use Rattle.std.specs.Prelude.{◌≡◌, ◌<◌};
 ghost use Rattle.mask.specs.Member.{holds, excluding};
 ghost use Rattle.search.specs.Limits.{jobs, databases};
 ghost use Rattle.search.specs.Search.{sought};
-ghost use Rattle.walks.specs.Marks.{count};
-ghost use Rattle.search.specs.Visit.{marks, put_ahead, all_ahead, turned, due, BeforeJob, JobVisited, BeforeDatabase, DatabaseVisited, Others};
+ghost use Rattle.search.specs.Visit.{put_ahead, all_ahead, turned, due, BeforeJob, JobVisited, BeforeDatabase, DatabaseVisited, Others};
 
+pub use count::count_all;
 use mask::Set;
 use numbers::{Database, STEPS, Slot};
 
@@ -114,21 +116,8 @@ impl Walker<'_> {
     fn moves(&self) -> u32
         ensures { result ≡ due self.now }
     {
-        2 * count(&self.reached) + count(&self.found)
+        2 * count_all(&self.reached) + count_all(&self.found)
     }
-}
-
-// How many slots there are in the sets.
-#[tactic(auto, using(mask::proofs::Size::size_le), unfolding(loops::specs::Sum::sum))]
-fn count(sets: &[u32; Database::COUNT]) -> u32
-    ensures members { result ≡ count marks sets.now }
-    ensures most { result ≤ jobs * databases }
-{
-    let mut total = 0;
-    for slots in sets {
-        total += slots.size();
-    }
-    total
 }
 
 // Database u is ahead of each of the slots.

@@ -24,7 +24,7 @@ returns c =
     opened_at s c.args.mask _ _ _ _ _ _ _ _ _ _ sized (open_slots_are s _ c.requires.0)
     (slot_fits _ c.requires.1 c.ranges.slots.fits _ c.lowest_of-slot.ensures) c.lowest_of-slot.ensures
     c.size-count.ensures (c.take-ticket.ensures.0 ∙ ap (λ l. ticket_from l s.maker.next) c.held_tickets-held.ensures) c.take-ticket.ensures.1 c.name_databases.ensures c.lead_released.ensures
-    c.search-sought.ensures c.lead_found.ensures c.count_all-added.ensures
+    c.search-sought.ensures c.lead_found.ensures c.count_all-added.ensures.all
 
 pub slice_bounds-held-end : goal.slice_bounds-held-end
 slice_bounds-held-end c = omega (arith, c.size-count.ensures, room_left _ c.requires.1)
