@@ -1,5 +1,4 @@
 // The calls, each with its answer printed.
-use crate::say;
 use coordinator::Coordinator;
 use coordinator::answers::{Asked, Closed, Opened};
 use numbers::{Database, Ticket};
@@ -7,8 +6,7 @@ use refusals::Refusal;
 use std::io;
 
 fn refused(rt: &impl Print, refusal: Refusal) -> io::Result<()> {
-    say::text(rt, b" refused")?;
-    say::number(rt, u32::from(u8::from(refusal)))
+    print!(rt; " refused {}", u8::from(refusal))
 }
 
 pub(crate) fn open(rt: &impl Print, s: Coordinator, mask: u16) -> io::Result<Coordinator> {
@@ -16,10 +14,12 @@ pub(crate) fn open(rt: &impl Print, s: Coordinator, mask: u16) -> io::Result<Coo
     match after.answer {
         Err(refusal) => refused(rt, refusal)?,
         Ok(opened) => {
-            say::text(rt, b" opened")?;
-            say::ticket(rt, opened.ticket)?;
-            say::number(rt, opened.added)?;
-            say::number(rt, opened.moves)?;
+            let Opened {
+                ticket,
+                added,
+                moves,
+            } = opened;
+            print!(rt; " opened {} {added} {moves}", ticket.0)?;
         }
     }
     Ok(after.state)
@@ -34,8 +34,8 @@ pub(crate) fn ask(
     let after = s.ask(Ticket(ticket), Database(database));
     match after.answer {
         Err(refusal) => refused(rt, refusal)?,
-        Ok(Asked::Released) => say::text(rt, b" released")?,
-        Ok(Asked::Held) => say::text(rt, b" held")?,
+        Ok(Asked::Released) => print!(rt; " released")?,
+        Ok(Asked::Held) => print!(rt; " held")?,
     }
     Ok(after.state)
 }
@@ -49,11 +49,8 @@ pub(crate) fn confirm(
     let after = s.confirm(Ticket(ticket), Database(database));
     match after.answer {
         Err(refusal) => refused(rt, refusal)?,
-        Ok(Some(released)) => {
-            say::text(rt, b" releases")?;
-            say::ticket(rt, released)?;
-        }
-        Ok(None) => say::text(rt, b" confirmed")?,
+        Ok(Some(released)) => print!(rt; " releases {}", released.0)?,
+        Ok(None) => print!(rt; " confirmed")?,
     }
     Ok(after.state)
 }
@@ -62,11 +59,11 @@ pub(crate) fn close(rt: &impl Print, s: Coordinator, ticket: u16) -> io::Result<
     let after = s.close(Ticket(ticket));
     match after.answer {
         Err(refusal) => refused(rt, refusal)?,
-        Ok(None) => say::text(rt, b" held")?,
+        Ok(None) => print!(rt; " held")?,
         Ok(Some(closed)) => {
-            say::text(rt, b" closes")?;
-            for t in closed.tickets.iter().take(closed.count as usize) {
-                say::ticket(rt, Ticket(*t))?;
+            print!(rt; " closes")?;
+            for ticket in closed.tickets.iter().take(closed.count as usize) {
+                print!(rt; " {ticket}")?;
             }
         }
     }

@@ -79,7 +79,7 @@ fn round_and_round(rt: &impl Print) -> io::Result<()> {
     say::line(rt, 12)?;
     let a = calls::open(rt, Coordinator::fresh(Ticket(65535)), 1)?;
     let (b, as_told) = calls::rounds(a);
-    say::number(rt, as_told)?;
+    print!(rt; " {as_told}")?;
     let c = calls::open(rt, b, 2)?;
     say::end(rt, c.maker.next)
 }
@@ -94,5 +94,5 @@ fn main(rt: HostRuntime) -> io::Result<()> {
     no_such_database(&rt)?;
     both_finish(&rt, left)?;
     round_and_round(&rt)?;
-    say::text(&rt, b"\n")
+    println!(&rt)
 }
