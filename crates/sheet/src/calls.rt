@@ -13,14 +13,11 @@ pub(crate) fn open(rt: &impl Print, s: Coordinator, mask: u16) -> io::Result<Coo
     let after = s.open(mask);
     match after.answer {
         Err(refusal) => refused(rt, refusal)?,
-        Ok(opened) => {
-            let Opened {
-                ticket,
-                added,
-                moves,
-            } = opened;
-            print!(rt; " opened {} {added} {moves}", ticket.0)?;
-        }
+        Ok(Opened {
+            ticket,
+            added,
+            moves,
+        }) => print!(rt; " opened {} {added} {moves}", ticket.0)?,
     }
     Ok(after.state)
 }
