@@ -1,4 +1,4 @@
--- Which call a record is: `Record`, and as the code reads it: `Request`. What it answers: `Answer`; given whether the state is sound: `Tested`. Its row: `Row`.
+-- Which call a record is: `Record`, and as the code reads it: `Request`. What it answers: `Answer`; given whether the state is sound: `Tested`. The tickets in its row: `Row`.
 pub mod Record
 pub mod Request
 pub mod Answer

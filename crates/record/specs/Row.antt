@@ -1,19 +1,13 @@
--- The row that an answer is. Assumes nothing: these are definitions.
+-- The tickets in the row that an answer is. Assumes nothing: these are definitions.
 use Rattle.std.specs.Prelude.{ℕ, List, replicate}
 use Rattle.std.specs.Prelude.{Option, None, Some, Result, Ok, Err}
 use Rattle.coordinator.specs.Limits.{jobs}
-use Rattle.coordinator.specs.Answer.{Values}
 use Rattle.coordinator.specs.declared.answers.Closed.{Closed}
 use Rattle.refusals.specs.declared.refusal.Refusal.{Refusal}
-use Rattle.record.specs.declared.answer.Answer.{Answer}
-use Rattle.record.specs.Answer.{numbers_of}
-
-abbrev pub no_tickets : List ℕ
-no_tickets = replicate jobs 0
 
 -- of a call that closes nothing
-abbrev pub bare : Values → Answer
-bare v = record { numbers = numbers_of v; tickets = no_tickets }
+abbrev pub no_tickets : List ℕ
+no_tickets = replicate jobs 0
 
 -- the tickets beside a close's numbers
 abbrev pub tickets_of : Result (Option Closed) Refusal → List ℕ

@@ -1,7 +1,7 @@
 // What a record answers, in document 01's numbers.
 ghost use Rattle.std.specs.Prelude.{◌≡◌};
 ghost use Rattle.coordinator.specs.Answer.{refused, open_values, ask_values, confirm_values, close_values};
-ghost use Rattle.record.specs.Row.{no_tickets, bare, tickets_of};
+ghost use Rattle.record.specs.Row.{no_tickets, tickets_of};
 ghost use Rattle.record.specs.Answer.{numbers_of};
 
 use crate::request::UnknownKind;
@@ -28,76 +28,80 @@ pub struct Answer {
     pub tickets: [u16; Coordinator::JOBS],
 }
 
-// Of a call that closes nothing.
-fn without_tickets(numbers: Numbers) -> Answer
-    ensures { result ≡ record { numbers = numbers; tickets = no_tickets } }
-{
-    Answer {
-        numbers,
-        tickets: [0u16; Coordinator::JOBS],
+impl Numbers {
+    fn refused(n: u8) -> Numbers
+        ensures { result ≡ numbers_of (refused n) }
+    {
+        Numbers {
+            refusal: n,
+            ..Numbers::default()
+        }
     }
 }
 
-fn refused(n: u8) -> Answer
-    ensures { result ≡ bare (refused n) }
-{
-    without_tickets(Numbers {
-        refusal: n,
-        ..Numbers::default()
-    })
-}
+impl From<UnknownKind> for Numbers {
+    ghost from_gives = { λ _ numbers. numbers ≡ numbers_of (refused 11) };
 
-impl From<UnknownKind> for Answer {
-    ghost from_gives = { λ _ row. row ≡ bare (refused 11) };
-
-    fn from(unknown: UnknownKind) -> Answer {
-        refused(u8::from(unknown))
+    fn from(unknown: UnknownKind) -> Numbers {
+        Numbers::refused(u8::from(unknown))
     }
 }
 
-impl From<Result<Opened, Refusal>> for Answer {
-    ghost from_gives = { λ answer row. row ≡ bare (open_values answer) };
+impl From<Result<Opened, Refusal>> for Numbers {
+    ghost from_gives = { λ answer numbers. numbers ≡ numbers_of (open_values answer) };
 
-    fn from(answer: Result<Opened, Refusal>) -> Answer {
+    fn from(answer: Result<Opened, Refusal>) -> Numbers {
         match answer {
-            Ok(opened) => without_tickets(Numbers {
+            Ok(opened) => Numbers {
                 ticket: opened.ticket.0,
                 added: opened.added,
                 moves: opened.moves,
                 ..Numbers::default()
-            }),
-            Err(refusal) => refused(u8::from(refusal)),
+            },
+            Err(refusal) => Numbers::refused(u8::from(refusal)),
         }
     }
 }
 
-impl From<Result<Asked, Refusal>> for Answer {
-    ghost from_gives = { λ answer row. row ≡ bare (ask_values answer) };
+impl From<Result<Asked, Refusal>> for Numbers {
+    ghost from_gives = { λ answer numbers. numbers ≡ numbers_of (ask_values answer) };
 
-    fn from(answer: Result<Asked, Refusal>) -> Answer {
+    fn from(answer: Result<Asked, Refusal>) -> Numbers {
         match answer {
-            Ok(Asked::Released) => without_tickets(Numbers {
+            Ok(Asked::Released) => Numbers {
                 released: 1,
                 ..Numbers::default()
-            }),
-            Ok(Asked::Held) => without_tickets(Numbers::default()),
-            Err(refusal) => refused(u8::from(refusal)),
+            },
+            Ok(Asked::Held) => Numbers::default(),
+            Err(refusal) => Numbers::refused(u8::from(refusal)),
         }
     }
 }
 
-impl From<Result<Option<Ticket>, Refusal>> for Answer {
-    ghost from_gives = { λ answer row. row ≡ bare (confirm_values answer) };
+impl From<Result<Option<Ticket>, Refusal>> for Numbers {
+    ghost from_gives = { λ answer numbers. numbers ≡ numbers_of (confirm_values answer) };
 
-    fn from(answer: Result<Option<Ticket>, Refusal>) -> Answer {
+    fn from(answer: Result<Option<Ticket>, Refusal>) -> Numbers {
         match answer {
-            Ok(Some(ticket)) => without_tickets(Numbers {
+            Ok(Some(ticket)) => Numbers {
                 released: 1,
                 ticket: ticket.0,
                 ..Numbers::default()
-            }),
-            Ok(None) => without_tickets(Numbers::default()),
-            Err(refusal) => refused(u8::from(refusal)),
+            },
+            Ok(None) => Numbers::default(),
+            Err(refusal) => Numbers::refused(u8::from(refusal)),
+        }
+    }
+}
+
+// A call that closes nothing has no tickets.
+impl From<Numbers> for Answer {
+    ghost from_gives = { λ numbers row. row ≡ record { numbers = numbers; tickets = no_tickets } };
+
+    fn from(numbers: Numbers) -> Answer {
+        Answer {
+            numbers,
+            tickets: [0u16; Coordinator::JOBS],
         }
     }
 }
@@ -115,8 +119,8 @@ impl From<Result<Option<Closed>, Refusal>> for Answer {
                 let tickets = closed.tickets;
                 Answer { numbers, tickets }
             }
-            Ok(None) => without_tickets(Numbers::default()),
-            Err(refusal) => refused(u8::from(refusal)),
+            Ok(None) => Answer::from(Numbers::default()),
+            Err(refusal) => Answer::from(Numbers::refused(u8::from(refusal))),
         }
     }
 }

@@ -29,6 +29,7 @@ impl Tested {
     }
 
     // Plays a record in place. What is no call changes nothing.
+    #[inline(always)]
     pub fn play(&mut self, asked: Result<Request, UnknownKind>) -> Answer
         ensures { Plays (answer self.old.state (requested asked)) result self.new.state }
     {
