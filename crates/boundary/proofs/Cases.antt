@@ -1,21 +1,21 @@
 -- What each function answers, by its lengths. Assumes nothing.
 use Prim.Native.Nat.{ℕ, ◌*◌, ◌/◌, ◌%◌}
-use mathlib.Core.Path.{◌≡◌, ap, ◌∙◌}
+use mathlib.Core.Path.{◌≡◌, sym, ap, ◌∙◌}
 use mathlib.Core.Bool.{true}
 use mathlib.Core.List.{List, []}
-use mathlib.Core.Option.{Option}
-use native.Mathlib.Omega.{arith}
+use Rattle.std.specs.Prelude.{Option}
 use borrow.Author.Tests.{eq-eqb, ne_eqb}
 use lib.ListN.{length}
 use Rattle.coordinator.specs.declared.Coordinator.{Coordinator}
 use Rattle.coordinator.specs.Fresh.{fresh}
 use Rattle.coordinator.specs.Bound.{most_moves}
 use Rattle.coordinator.specs.Call.{Call}
-use Rattle.layout.specs.Bytes.{pieces}
+use Rattle.layout.proofs.Put.{put_all}
 use Rattle.record.specs.Answer.{answer}
 use Rattle.boundary.specs.State.{state_size, encoded, decoded}
 use Rattle.boundary.specs.Row.{row_size, row}
-use Rattle.boundary.specs.Records.{record_at, state_after, row_at, rows}
+use Rattle.boundary.specs.Records.{Answers, state_after, rows}
+use Rattle.boundary.proofs.Written.{length_row}
 use Rattle.boundary.specs.Outcome.{Outcome, Written, outcome, played_all, records_played, played_one, called, started, moves_at_most}
 
 abbrev refused : List ℕ → List ℕ → Outcome
@@ -58,17 +58,13 @@ module _ (state answers : List ℕ) where
     unfolding called outcome
     call_wrong_answer l h = rw (eq-eqb (length state) state_size l, ne_eqb (length answers) row_size h)
 
-    -- the call is played as the one record of a list
-    pub call_right : length state ≡ state_size → length answers ≡ row_size → (records : List ℕ) → length records ≡ 4 → record_at records 0 ≡ c
-        → (s t : Coordinator) (state₁ answers₁ : List ℕ) → s ≡ decoded state
-        → (answers₁ ≡ rows s records (length records / 4)) × (t ≡ state_after s records (length records / 4)) → state₁ ≡ encoded t
-        → ◌≡◌ {A = Outcome} (record { code = 0; state = state₁; answers = answers₁ }) (called c state answers)
-    unfolding called rows row_at state_after pieces
-    call_right l h records four is s t state₁ answers₁ es p e =
-        let one : length records / 4 ≡ 1 = omega (arith, four) in
+    -- the call is played, and its row is all that the answer holds
+    pub call_right : length state ≡ state_size → length answers ≡ row_size → (s t : Coordinator) (state₁ answers₁ : List ℕ) → s ≡ decoded state →
+        Answers s c answers 0 answers₁ t → state₁ ≡ encoded t → ◌≡◌ {A = Outcome} (record { code = 0; state = state₁; answers = answers₁ }) (called c state answers)
+    unfolding called
+    call_right l h s t state₁ answers₁ es p e =
         rw (eq-eqb (length state) state_size l, eq-eqb (length answers) row_size h)
-        (taken (played_one c) state answers s t state₁ answers₁ es (p.1 ∙ ap (state_after s records) one ∙ ap (λ (x : Option Call). (answer s x).state) is)
-        (p.0 ∙ ap (rows s records) one ∙ ap (λ (x : Option Call). row (answer s x).values) is) e)
+        (taken (played_one c) state answers s t state₁ answers₁ es p.state (p.written ∙ put_all answers (row (answer s c).values) (length_row (answer s c).values ∙ sym h)) e)
 
 module _ (first : ℕ) (state : List ℕ) where
   pub start_wrong : ¬ (length state ≡ state_size) → refused state [] ≡ started first state

@@ -1,36 +1,19 @@
 -- What encoding and decoding leave, and that a state comes back, and its bytes. Assumes nothing.
 use Prim.Native.Nat.{ℕ}
 use mathlib.Core.Path.{◌≡◌, refl, sym, ◌∙◌}
-use mathlib.Core.List.{List, [], append_assoc, append-nil}
+use mathlib.Core.List.{List, [], append_assoc, append-nil, map}
 use native.Mathlib.Omega.{arith}
 use lib.ListN.{length}
 use Rattle.coordinator.specs.declared.Coordinator.{Coordinator}
 use Rattle.coordinator.specs.Limits.{jobs, databases, steps}
 use Rattle.coordinator.specs.Shape.{Sized, Shape}
 use Rattle.layout.specs.Put.{put}
-use Rattle.layout.specs.Bytes.{bytes_of, number_at, bytes_of_all, numbers_at}
+use Rattle.layout.specs.Bytes.{bytes_of, bytes_of_all}
 use Rattle.layout.proofs.Put.{put_all, filled_none}
 use Rattle.layout.proofs.Number.{length_bytes}
 use Rattle.layout.proofs.Numbers.{length_all, filled_number, filled_numbers}
 use Rattle.layout.proofs.Back.{next_part, number_there, numbers_there, bytes_there, all_there, rejoin, last_part}
 use Rattle.boundary.specs.State.{state_size, encoded, decoded}
-
-pub decode_done : (b tickets order named asked released confirmed dependencies : List ℕ) (held next : ℕ) → tickets ≡ numbers_at 2 jobs b 0 → order ≡ numbers_at 1 jobs b 68 →
-    named ≡ numbers_at 4 databases b 100 → asked ≡ numbers_at 4 databases b 164 → released ≡ numbers_at 4 databases b 228 → confirmed ≡ numbers_at 4 databases b 292 →
-    dependencies ≡ numbers_at 4 steps b 356 → held ≡ number_at 4 b 64 → next ≡ number_at 2 b 2404 →
-    ◌≡◌ {A = Coordinator} (record {
-      tickets = tickets;
-      held = held;
-      order = order;
-      named = named;
-      asked = asked;
-      released = released;
-      confirmed = confirmed;
-      dependencies = dependencies;
-      maker = record { next = next };
-    }) (decoded b)
-unfolding decoded
-decode_done b tickets order named asked released confirmed dependencies held next e₁ e₂ e₃ e₄ e₅ e₆ e₇ e₈ e₉ = rw (e₁, e₂, e₃, e₄, e₅, e₆, e₇, e₈, e₉)
 
 -- the arrays of a state are as long as its type says
 pub record Long (s : Coordinator) : Type 0 where
@@ -42,14 +25,14 @@ pub record Long (s : Coordinator) : Type 0 where
   pub confirmed : length s.confirmed ≡ databases
   pub dependencies : length s.dependencies ≡ steps
 
-pub encode_done : (s : Coordinator) (o o₁ o₂ o₃ o₄ o₅ o₆ o₇ o₈ o₉ : List ℕ) (next : ℕ) → Long s → length o ≡ state_size →
-    o₁ ≡ put o 0 (bytes_of_all 2 (length s.tickets) s.tickets) → o₂ ≡ put o₁ 64 (bytes_of 4 s.held) → o₃ ≡ put o₂ 68 (bytes_of_all 1 (length s.order) s.order) →
-    o₄ ≡ put o₃ 100 (bytes_of_all 4 (length s.named) s.named) → o₅ ≡ put o₄ 164 (bytes_of_all 4 (length s.asked) s.asked) →
-    o₆ ≡ put o₅ 228 (bytes_of_all 4 (length s.released) s.released) → o₇ ≡ put o₆ 292 (bytes_of_all 4 (length s.confirmed) s.confirmed) →
-    o₈ ≡ put o₇ 356 (bytes_of_all 4 (length s.dependencies) s.dependencies) → next ≡ s.maker.next →
-    o₉ ≡ put o₈ 2404 (bytes_of 2 next) → o₉ ≡ encoded s
+pub encode_done : (s : Coordinator) (o o₁ o₂ o₃ o₄ o₅ o₆ o₇ o₈ o₉ : List ℕ) → Long s → length o ≡ state_size →
+    o₁ ≡ put o 0 (bytes_of_all 2 (length s.tickets) (map (λ x. x) s.tickets)) → o₂ ≡ put o₁ 64 (bytes_of 4 s.held) → o₃ ≡ put o₂ 68 (bytes_of_all 1 (length s.order) (map (λ x. x) s.order)) →
+    o₄ ≡ put o₃ 100 (bytes_of_all 4 (length s.named) (map (λ x. x) s.named)) → o₅ ≡ put o₄ 164 (bytes_of_all 4 (length s.asked) (map (λ x. x) s.asked)) →
+    o₆ ≡ put o₅ 228 (bytes_of_all 4 (length s.released) (map (λ x. x) s.released)) → o₇ ≡ put o₆ 292 (bytes_of_all 4 (length s.confirmed) (map (λ x. x) s.confirmed)) →
+    o₈ ≡ put o₇ 356 (bytes_of_all 4 (length s.dependencies) (map (λ x. x) s.dependencies)) →
+    o₉ ≡ put o₈ 2404 (bytes_of 2 s.maker.next) → o₉ ≡ encoded s
 unfolding encoded
-encode_done s o o₁ o₂ o₃ o₄ o₅ o₆ o₇ o₈ o₉ next l h e₁ e₂ e₃ e₄ e₅ e₆ e₇ e₈ v e₉ =
+encode_done s o o₁ o₂ o₃ o₄ o₅ o₆ o₇ o₈ o₉ l h e₁ e₂ e₃ e₄ e₅ e₆ e₇ e₈ e₉ =
     let f₁ = filled_numbers o 0 [] 0 o 2 jobs s.tickets o₁ (filled_none o 0 (omega arith)) l.tickets (omega arith) e₁ in
     let f₂ = filled_number o 0 _ 64 o₁ 4 s.held o₂ f₁ (omega arith) e₂ in
     let f₃ = filled_numbers o 0 _ 68 o₂ 1 jobs s.order o₃ f₂ l.order (omega arith) e₃ in
@@ -58,7 +41,7 @@ encode_done s o o₁ o₂ o₃ o₄ o₅ o₆ o₇ o₈ o₉ next l h e₁ e₂ 
     let f₆ = filled_numbers o 0 _ 228 o₅ 4 databases s.released o₆ f₅ l.released (omega arith) e₆ in
     let f₇ = filled_numbers o 0 _ 292 o₆ 4 databases s.confirmed o₇ f₆ l.confirmed (omega arith) e₇ in
     let f₈ = filled_numbers o 0 _ 356 o₇ 4 steps s.dependencies o₈ f₇ l.dependencies (omega arith) e₈ in
-    let f₉ = filled_number o 0 _ 2404 o₈ 2 s.maker.next o₉ f₈ (omega arith) (rw v at e₉) in
+    let f₉ = filled_number o 0 _ 2404 o₈ 2 s.maker.next o₉ f₈ (omega arith) e₉ in
     f₉.is ∙ put_all o _ (omega (arith, f₉.ends)) ∙ simp append_assoc
 
 -- a state comes back from its bytes

@@ -1,8 +1,9 @@
 -- A call that is refused leaves every byte of the state as it was. Assumes nothing.
 use Prim.Native.Nat.{ℕ}
+use Rattle.refusals.specs.declared.refusal.Refusal.{Refusal}
 use mathlib.Core.Bool.{Bool, true, false}
 use mathlib.Core.List.{List}
-use mathlib.Core.Option.{Option, none, some}
+use Rattle.std.specs.Prelude.{Option, None, Some}
 use mathlib.Core.Path.{◌≡◌, refl, ap, ◌∙◌}
 use borrow.Author.Tests.{eq-eqb}
 use lib.Dec.{eqb}
@@ -26,10 +27,10 @@ module _ (state answers : List ℕ) (bytes : Sized state_size 8 state) where
       by true = ap encoded e ∙ bytes_back state bytes
       by false = refl
 
-  pub refused_leaves : (c : Call) (n : ℕ) → refusal_of (decoded state) c ≡ some n → (called (some c) state answers).state ≡ state
+  pub refused_leaves : (c : Call) (n : Refusal) → refusal_of (decoded state) c ≡ Some n → (called (Some c) state answers).state ≡ state
   unfolding answer
-  refused_leaves c n e = same_bytes (some c) (ap (λ (p : Played). p.state) (refused_play (decoded state) c n e))
+  refused_leaves c n e = same_bytes (Some c) (ap (λ (p : Played). p.state) (refused_play (decoded state) c n e))
 
-  pub no_call_leaves : (called none state answers).state ≡ state
+  pub no_call_leaves : (called None state answers).state ≡ state
   unfolding answer
-  no_call_leaves = same_bytes none refl
+  no_call_leaves = same_bytes None refl

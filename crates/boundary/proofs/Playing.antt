@@ -1,21 +1,34 @@
 -- Records played one after another. Assumes nothing.
 use Prim.Native.Nat.{ℕ, ◌+◌, ◌*◌, ◌/◌, ◌≤◌, ◌<◌}
 use mathlib.Core.Path.{◌≡◌, refl, sym, ap, ◌∙◌}
-use mathlib.Core.List.{List}
+use mathlib.Core.List.{List, []}
+use Rattle.std.specs.Prelude.{Option}
+use Rattle.std.specs.Simd.{first_chunks}
 use native.Mathlib.Omega.{arith}
 use native.Mathlib.Numerals.{add-one}
 use lib.ListN.{length, get_or}
 use Rattle.coordinator.specs.declared.Coordinator.{Coordinator}
 use Rattle.layout.specs.Put.{put}
 use Rattle.layout.specs.Bytes.{number_at}
-use Rattle.layout.proofs.Put.{put_all, Filled, filled_long}
+use Rattle.layout.proofs.Put.{put_all, Filled}
 use Rattle.layout.proofs.Numbers.{length_pieces, pieces_none, pieces_turn}
 use Rattle.record.specs.Answer.{answer}
 use Rattle.boundary.specs.Row.{row_size, row}
 use Rattle.boundary.specs.Records.{Answers, record_at, state_after, row_at, rows}
-use Rattle.record.specs.Record.{call_of}
+use Rattle.coordinator.specs.Call.{Call}
+use Rattle.layout.proofs.Number.{number_two}
+use Rattle.record.specs.Record.{call_of, two_bytes}
+use Rattle.record.specs.Request.{read}
+use Rattle.record.proofs.Chunks.{read_at}
 use Rattle.boundary.proofs.Written.{length_row}
 use Rattle.boundary.proofs.Answering.{as_call}
+
+-- chunk i is record i
+pub chunk_is : (records : List ℕ) (n : ℕ) (chunks : List (List ℕ)) (i : ℕ) → chunks ≡ first_chunks 4 (length records / 4) records → n ≡ length records / 4 → i < n → read (get_or chunks i []) ≡ record_at records i
+chunk_is records n chunks i e m h =
+    let last : 4 * i + 2 + 1 ≡ 4 * i + 3 = omega arith in
+    let value : number_at 2 records (4 * i + 2) ≡ two_bytes (get_or records (4 * i + 2) 0) (get_or records (4 * i + 3) 0) = number_two records (4 * i + 2) (omega (arith, m)) ∙ ap (λ (k : ℕ). two_bytes (get_or records (4 * i + 2) 0) (get_or records k 0)) last in
+    read_at (length records / 4) records i chunks e (omega (arith, m)) ∙ ap (call_of (get_or records (4 * i) 0) (get_or records (4 * i + 1) 0)) (sym value)
 
 module _ (s : Coordinator) (records o : List ℕ) where
   -- i records are played
@@ -32,14 +45,11 @@ module _ (s : Coordinator) (records o : List ℕ) where
   unfolding state_after rows
   going_start = record { here = omega arith; state = refl; filled = pieces_none row_size (row_at s records) long o 0 (omega arith) }
 
-  pub going_long : (t : Coordinator) (left : List ℕ) (i : ℕ) → Going t left i → length left ≡ length o
-  going_long t left i g = filled_long o 0 (rows s records i) (0 + row_size * i) left g.filled
-
-  pub going_on : (t : Coordinator) (left : List ℕ) (i value : ℕ) (t₁ : Coordinator) (left₁ : List ℕ) (p : ℕ) → length o ≡ row_size * (length records / 4) → i < length records / 4 → Going t left i →
-      value ≡ number_at 2 records (4 * i + 2) → p ≡ row_size * i → Answers t (call_of (get_or records (4 * i) 0) (get_or records (4 * i + 1) 0) value) left p left₁ t₁ → Going t₁ left₁ (i + 1)
+  pub going_on : (t : Coordinator) (left : List ℕ) (i : ℕ) (c : Option Call) (t₁ : Coordinator) (left₁ : List ℕ) (p : ℕ) → length o ≡ row_size * (length records / 4) → i < length records / 4 → Going t left i →
+      c ≡ record_at records i → p ≡ row_size * i → Answers t c left p left₁ t₁ → Going t₁ left₁ (i + 1)
   unfolding state_after row_at rows
-  going_on t left i value t₁ left₁ p l h g v q w =
-      let a : Answers t (record_at records i) left p left₁ t₁ = as_call (ap (call_of (get_or records (4 * i) 0) (get_or records (4 * i + 1) 0)) (sym v)) w in
+  going_on t left i c t₁ left₁ p l h g v q w =
+      let a : Answers t (record_at records i) left p left₁ t₁ = as_call (sym v) w in
       record {
         here = omega arith;
         state = a.state ∙ ap (λ (x : Coordinator). (answer x (record_at records i)).state) g.state ∙ ap (state_after s records) (sym (add-one i));

@@ -9,15 +9,18 @@ use mathlib.Core.Path.{◌≡◌, refl, sym, ap, ap₂, ◌∙◌}
 use borrow.Author.Tests.{ne_eqb}
 use lib.Bits.{bit_or}
 use lib.Dec.{eqb}
-use lib.ListN.{set}
+use lib.ListN.{length, set}
+use lib.Pow.{pow-lt}
+use Rattle.std.proofs.Common.{pow_pos}
 use Rattle.loops.specs.Sum.{tally}
 use Rattle.loops.proofs.Tests.{and_left, and_right, or_cases, or_right}
 use Rattle.mask.specs.Member.{holds, excluding, lowest, size}
 use Rattle.mask.specs.Members.{gather}
 use Rattle.mask.specs.Lowest.{Lowest}
+use Rattle.std.proofs.lemmas.Nat.Bits.{bit_at-pow_same, bit_at-pow_other}
 use Rattle.mask.proofs.Gather.{gathered_lt, holds_gather}
 use Rattle.mask.proofs.Holds.{holds_or, holds_excluding, holds_below}
-use Rattle.mask.proofs.Lowest.{trailing_lowest, lowest_holds}
+use Rattle.mask.proofs.Lowest.{trailing_lowest, lowest_holds, lowest_unique}
 use Rattle.mask.proofs.Size.{size_le, size_mono, size_excluding}
 use Rattle.coordinator.specs.declared.Coordinator.{Coordinator}
 use Rattle.coordinator.specs.Limits.{jobs, databases, steps}
@@ -48,17 +51,21 @@ from_none zero c = refl
 from_none (suc left) c = refl
 
 -- Where the loop stands: what is left to do from here gives the whole. Each turn takes one slot off those that are held or close next, so the tickets have room.
-pub record Going (s₀ : Coordinator) (found : ℕ) (s : Coordinator) (tickets : List ℕ) (count next : ℕ) : Type 0 where
+pub record Going (s₀ : Coordinator) (first : ℕ) (s : Coordinator) (tickets : List ℕ) (count next : ℕ) : Type 0 where
   pub fits : next < 2 ^ jobs
   pub room : count + size jobs (bit_or s.held next) ≤ jobs
-  pub same : close_from (suc jobs - count) next (record { count = count; tickets = tickets; state = s }) ≡ closing s₀ (lowest jobs found)
+  pub same : close_from (suc jobs - count) next (record { count = count; tickets = tickets; state = s }) ≡ closing s₀ first
 
-pub going_start : (s : Coordinator) (found : ℕ) → ¬ (found ≡ 0) → found < 2 ^ jobs → Going s found s no_tickets 0 found
+lowest_one : (n k : ℕ) → k < n → lowest n (2 ^ k) ≡ k
+lowest_one n k l =
+    lowest_unique n (2 ^ k) k (pow-lt l) (record { within = l; on = bit_at-pow_same k; below = λ j h. bit_at-pow_other k j (λ e. omega arith) })
+
+pub going_start : (s : Coordinator) (j m : ℕ) → j < jobs → m ≡ 2 ^ j → Going s j s no_tickets 0 m
 unfolding closing
-going_start s found n h = record {
-  fits = h;
-  room = omega (arith, size_le jobs (bit_or s.held found));
-  same = from_some jobs found _ n;
+going_start s j m l e = record {
+  fits = rw e (pow-lt l);
+  room = omega (arith, size_le jobs (bit_or s.held m));
+  same = from_some jobs m _ (omega (arith, e, pow_pos j)) ∙ rw (e, lowest_one jobs j l);
 }
 
 now_lt : (s : Coordinator) → may_close_now s < 2 ^ jobs
@@ -72,13 +79,10 @@ among_held s j e =
     let test : ℕ → Bool = λ i. holds s.held i && may_close s i in
     and_left (holds s.held j) (may_close s j) (sym (holds_gather test jobs j (holds_below jobs (gather jobs _) j (gathered_lt test jobs) e)) ∙ e)
 
-module _ {s₀ : Coordinator} {found : ℕ} {s : Coordinator} {tickets : List ℕ} {count next : ℕ} (g : Going s₀ found s tickets count next) where
+module _ {s₀ : Coordinator} {first : ℕ} {s : Coordinator} {tickets : List ℕ} {count next : ℕ} (g : Going s₀ first s tickets count next) where
   module _ (n : ¬ (next ≡ 0)) where
-    pub going_lowest : Lowest jobs next (lowest jobs next)
+    going_lowest : Lowest jobs next (lowest jobs next)
     going_lowest = trailing_lowest jobs next (omega arith) g.fits
-
-    pub going_slot : (j : ℕ) → j ≡ lowest jobs next → j < jobs
-    going_slot j e = rw e going_lowest.within
 
     one_less : size jobs (bit_or s.held next) ≡ size jobs (excluding (bit_or s.held next) (lowest jobs next)) + 1
     one_less =
@@ -107,7 +111,7 @@ module _ {s₀ : Coordinator} {found : ℕ} {s : Coordinator} {tickets : List �
     one_more r given e f = λ i. record { count = add-one count i; tickets = f i; state = e i }
 
     pub going_turn : (r : Coordinator) (given : List ℕ) (later : ℕ) → r ≡ removed s (lowest jobs next) → given ≡ set tickets count (entry s.tickets (lowest jobs next))
-        → later ≡ may_close_now_in r.dependencies r.held → Going s₀ found r given (count + 1) later
+        → later ≡ may_close_now_in r.dependencies r.held → Going s₀ first r given (count + 1) later
     going_turn r given later e f l =
         let now : later ≡ may_close_now r = l ∙ may_close_now_is r in
         let before : Closing = record { count = count; tickets = tickets; state = s } in
@@ -126,8 +130,12 @@ module _ {s₀ : Coordinator} {found : ℕ} {s : Coordinator} {tickets : List �
               ∙ g.same;
         }
 
-  pub going_done : next ≡ 0 → record { count = count; tickets = tickets; state = s } ≡ closing s₀ (lowest jobs found)
+  pub going_done : next ≡ 0 → record { count = count; tickets = tickets; state = s } ≡ closing s₀ first
   going_done z = sym (from_none (suc jobs - count) _) ∙ rw z at g.same
+
+-- a table of n sets without slot j
+pub struck : (l r : List ℕ) (n j : ℕ) → length l ≡ n → r ≡ strike (length l) j l → r ≡ strike n j l
+struck l r n j h e = e ∙ ap (λ (m : ℕ). strike m j l) h
 
 -- each table without slot j, one after another
 pub removed_made : (s : Coordinator) (j w : ℕ) → j ≡ w → (held p : ℕ) (order named asked released confirmed rows dependencies : List ℕ)

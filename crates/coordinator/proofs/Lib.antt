@@ -1,7 +1,7 @@
--- `Tables`: what the functions over lent arrays say is what the definitions say of the state. `Going`: gathering the steps that may go.
+-- `Tables`: what the functions that are lent a table say is what the definitions say of the state. `Going`: gathering the steps that may go.
 -- `Unconfirmed`: gathering the slots with a step that is not confirmed. `Reach`: what is read beyond the last database or slot.
 -- `Step`: what ask and confirm have read by the time that they are not refused. `Tested`: a call that tests the state first.
--- `Asking`, `Confirming`, `Ending`, `Opening`: what ask, confirm, close and open leave, in each way that they end. `Closings`: closing job after job.
+-- `Answered`: a call that a row refuses, and one that none does. `Opening`, `Ending`: what open and close read, and leave. `Closings`: closing job after job.
 pub mod Tables
 pub mod Unconfirmed
 pub mod Closings
@@ -11,5 +11,4 @@ pub mod Reach
 pub mod Opening
 pub mod Step
 pub mod Tested
-pub mod Asking
-pub mod Confirming
+pub mod Answered

@@ -3,8 +3,7 @@ use Prim.Native.Nat.{ℕ, ◌-◌, ◌^◌, ◌<◌}
 use native.Mathlib.Omega.{arith}
 use mathlib.Core.Bool.{Bool}
 use mathlib.Core.List.{List}
-use mathlib.Core.Option.{none}
-use mathlib.Core.Path.{◌≡◌, sym, ap, ◌∙◌}
+use mathlib.Core.Path.{◌≡◌, ap, ◌∙◌}
 use borrow.Author.Tests.{lt-ltb}
 use lib.ListN.{length, set}
 use Rattle.loops.specs.Loop.{over}
@@ -18,48 +17,36 @@ use Rattle.numbers.specs.declared.NumberMaker.{NumberMaker}
 use Rattle.numbers.specs.Ticket.{ticket_from, after}
 use Rattle.search.specs.declared.Sought.{Sought}
 use Rattle.search.specs.Search.{searched, sought}
+use Rattle.std.specs.Prelude.{Ok}
 use Rattle.coordinator.specs.declared.Coordinator.{Coordinator}
-use Rattle.coordinator.specs.declared.answers.OpenAnswer.{OpenAnswer}
+use Rattle.coordinator.specs.declared.answers.After.{After}
+use Rattle.coordinator.specs.declared.answers.Opened.{Opened}
 use Rattle.coordinator.specs.Limits.{jobs, databases}
 use Rattle.coordinator.specs.Views.{entry, in_mask, names, open_slots, open_count, ticket, opened, into, dep}
-use Rattle.coordinator.specs.Refusal.{number_of, slot_refusal, open_refusal_tested}
+use Rattle.coordinator.specs.Refusal.{slot_refusal, open_refusal_tested}
 use Rattle.coordinator.specs.Change.{mark, lead, taken, with_dependencies}
 use Rattle.coordinator.specs.Open.{free_slot, held_tickets, ticket_for, entered, with_found, added, accepted, after_open_tested}
 use Rattle.coordinator.specs.Open as open_spec
 use Rattle.coordinator.specs.Tables.{ticket_at}
 use Rattle.coordinator.proofs.Reach.{ticket_there}
-use Rattle.refusals.proofs.Rows.{refused}
-use Rattle.refusals.proofs.Passed.{open_passed}
 
-module _ (mask slots r : ℕ) (b : Bool) (e : r ≡ number_of (slot_refusal b mask (size jobs slots))) where
-  -- no refusal: there is a slot
-  module _ (z : r ≡ 0) where
-    none_applies : (slot_refusal b mask (size jobs slots) ≡ none) × ¬ (size jobs slots ≡ jobs)
-    none_applies = open_passed b mask (size jobs slots) (sym e ∙ z)
+module _ (s : Coordinator) (mask slots : ℕ) (b : Bool) (q : slots ≡ open_slots s) where
+  -- the rows that the code goes down are the call's
+  pub open_rows : slot_refusal b mask (size jobs slots) ≡ open_refusal_tested b s mask
+  unfolding slot_refusal open_count
+  open_rows = rw q
 
-    pub room_left : size jobs slots < jobs
-    room_left = omega (arith, none_applies.1, size_le jobs slots)
+-- there is a slot where not all are taken
+pub room_left : (slots : ℕ) → ¬ (size jobs slots ≡ jobs) → size jobs slots < jobs
+room_left slots n = omega (arith, size_le jobs slots)
 
-    pub slot_fits : slots < 2 ^ jobs → (n : ℕ) → n ≡ lowest jobs (2 ^ jobs - 1 - slots) → n < jobs
-    slot_fits h n at = rw at (size_free jobs slots h room_left).within
-
-  module _ (s : Coordinator) (q : slots ≡ open_slots s) where
-    rows_are : slot_refusal b mask (size jobs slots) ≡ open_refusal_tested b s mask
-    unfolding slot_refusal open_count
-    rows_are = rw q
-
-    pub open_refused : ¬ (r ≡ 0) → record { answer = OpenAnswer.Refused r; state = s } ≡ after_open_tested b s mask
-    unfolding after_open_tested
-    open_refused n = rw (after_open_tested, sym rows_are ∙ refused (slot_refusal b mask (size jobs slots)) r e n)
-
-    pub open_accepted : r ≡ 0 → (n : ℕ) → n ≡ lowest jobs (2 ^ jobs - 1 - slots) → accepted s n mask ≡ after_open_tested b s mask
-    unfolding after_open_tested free_slot
-    open_accepted z n at = rw (at, q, after_open_tested, sym rows_are ∙ (none_applies z).0)
+pub slot_fits : (slots : ℕ) → ¬ (size jobs slots ≡ jobs) → slots < 2 ^ jobs → (n : ℕ) → n ≡ lowest jobs (2 ^ jobs - 1 - slots) → n < jobs
+slot_fits slots full h n at = rw at (size_free jobs slots h (room_left slots full)).within
 
 -- what the code has done when it accepts, in slot n
 module _
     (s : Coordinator) (mask slots n count : ℕ) (t : Ticket) (next : NumberMaker) (named before left : List ℕ) (result : Sought) (more : ℕ)
-    (sized : length s.tickets ≡ jobs) (q : slots ≡ open_slots s) (below : n < jobs) (c : count ≡ size jobs slots)
+    (sized : length s.tickets ≡ jobs) (q : slots ≡ open_slots s) (below : n < jobs) (free : n ≡ lowest jobs (2 ^ jobs - 1 - slots)) (c : count ≡ size jobs slots)
     (given : t.0 ≡ ticket_from (table count (λ i. ticket_at s.tickets (entry s.order i))) s.maker.next) (moved : next.next ≡ after t.0)
     (marked : named ≡ over_members databases mask (λ k l. mark l k n) s.named)
     (led : before ≡ over_members databases mask (λ k. lead k (entry s.released k) n) s.dependencies)
@@ -83,8 +70,8 @@ module _
     unfolding sought
     sought_is = rw (sought, lt-ltb n jobs below)
 
-    pub opened_at : record {
-      answer = OpenAnswer.Opened t more result.moves;
+    pub opened_at : ◌≡◌ {A = After Opened} (record {
+      answer = Ok (record { ticket = t; added = more; moves = result.moves });
       state = record {
         tickets = set s.tickets n t.0;
         held = s.held;
@@ -96,6 +83,6 @@ module _
         dependencies = left;
         maker = next;
       };
-    } ≡ accepted s n mask
-    unfolding accepted added entered taken with_dependencies with_found open_count searched open_spec.searched names in_mask dep into
-    opened_at = rw (counted, found, walked, sought_is, marked, led, ticket_is, maker_is, c, q)
+    }) (accepted s (free_slot s) mask)
+    unfolding free_slot accepted added entered taken with_dependencies with_found open_count searched open_spec.searched names in_mask dep into
+    opened_at = rw (← q, ← free, counted, found, walked, sought_is, marked, led, ticket_is, maker_is, c, q)

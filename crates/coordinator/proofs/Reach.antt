@@ -27,7 +27,16 @@ pub ticket_beyond : (tickets : List ℕ) (j : ℕ) → jobs ≤ j → 0 ≡ tick
 unfolding ticket_at
 ticket_beyond tickets j l = rw (ticket_at, le-ltb j jobs l)
 
--- of a table with a ticket for each slot
+-- of a table with a set for each database, or a ticket for each slot
+pub set_there : (sets : List ℕ) → length sets ≡ databases → (k : ℕ) → set_at sets k ≡ entry sets k
+set_there sets sized k = by (ltb k databases) refl
+  where
+    by : (b : Bool) → ltb k databases ≡ b → set_at sets k ≡ entry sets k
+    by true e = sym (set_below sets k (ltb-true k databases e))
+    by false e =
+        let l : databases ≤ k = ltb-false k databases e in
+        rw (← set_beyond sets k l) (sym (get_or-eq_default sets 0 (omega (arith, sized))))
+
 pub ticket_there : (tickets : List ℕ) → length tickets ≡ jobs → (j : ℕ) → ticket_at tickets j ≡ entry tickets j
 ticket_there tickets sized j = by (ltb j jobs) refl
   where

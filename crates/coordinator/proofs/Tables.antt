@@ -1,22 +1,14 @@
--- For the callers: what the functions over lent arrays say of the tables is what the definitions say of the state. Assumes nothing.
+-- For the callers: what the functions that are lent a table say of it is what the definitions say of the state. Assumes nothing.
 use Prim.Native.Nat.{ℕ}
 use mathlib.Core.Path.{◌≡◌, refl}
-use mathlib.Core.Bool.{Bool}
 use Rattle.mask.specs.Member.{lowest}
 use Rattle.tables.specs.Tables.{open_in, holders_in}
-use Rattle.tables.specs.Test.{sound_in}
 use Rattle.coordinator.specs.declared.Coordinator.{Coordinator}
 use Rattle.coordinator.specs.Limits.{jobs}
 use Rattle.coordinator.specs.Views.{open_slots, held, into}
 use Rattle.coordinator.specs.Holder.{holders, holder}
-use Rattle.coordinator.specs.Test.{sound}
 use Rattle.coordinator.specs.Release.{may_close, may_close_now}
 use Rattle.coordinator.specs.Tables.{may_close_in, may_close_now_in}
-
-pub sound_of : (s : Coordinator) (r : Bool)
-    → r ≡ sound_in s.tickets s.held s.order s.named s.asked s.released s.confirmed s.dependencies → r ≡ sound s
-unfolding sound
-sound_of s r e = e
 
 pub open_slots_are : (s : Coordinator) (r : ℕ) → r ≡ open_in s.named → r ≡ open_slots s
 unfolding open_slots

@@ -2,6 +2,7 @@
 use mathlib.Core.Path.{◌≡◌, refl, ap, ap₂, ◌∙◌}
 use mathlib.Core.Bool.{Bool, true, false, not, ◌&&◌, ◌||◌}
 use Prim.Native.Nat.{ℕ, ◌+◌, ◌≤◌}
+use Rattle.std.proofs.Math.Bool.{not-not}
 use lib.Bits.{bit_or}
 use Rattle.loops.specs.Loop.{every}
 use Rattle.loops.proofs.Turns.{every_none, every_more, every_done}
@@ -30,3 +31,6 @@ gathered_more named confirmed k m x h e j =
 
 pub gathered_done : (named confirmed : ℕ → ℕ) (n k m : ℕ) → k ≤ n → n ≤ k → Gathered named confirmed k m → Gathered named confirmed n m
 gathered_done named confirmed n k m a b h j = h j ∙ ap not (every_done (λ i. not (holds (named i) j) || holds (confirmed i) j) n k a b refl)
+
+-- for the code: the loop's start, a turn and its end
+pub ruleset gathers = (gathered_none, gathered_more, gathered_done, not-not)

@@ -1,15 +1,17 @@
 -- Closing a job, and the held closes that may go then. Assumes nothing: these are definitions.
 use Rattle.std.specs.Prelude.{ℕ, zero, suc, Bool, true, false, List, eqb, set, replicate}
-use Rattle.std.proofs.Math.Option.{Option, none, some}
+use Rattle.std.specs.Prelude.{Option, None, Some}
 use Rattle.coordinator.specs.declared.Coordinator.{Coordinator}
-use Rattle.coordinator.specs.declared.answers.CloseAnswer.{CloseAnswer}
-use Rattle.coordinator.specs.declared.answers.AfterClose.{AfterClose}
 use Rattle.coordinator.specs.Limits.{jobs}
 use Rattle.coordinator.specs.Views.{ticket}
 use Rattle.coordinator.specs.Holder.{holder}
 use Rattle.coordinator.specs.Refusal.{close_refusal, close_refusal_tested}
 use Rattle.coordinator.specs.Change.{mark_held, removed}
 use Rattle.coordinator.specs.Release.{may_close, may_close_now, first_of}
+use Rattle.coordinator.specs.declared.answers.After.{After}
+use Rattle.coordinator.specs.declared.answers.Closed.{Closed}
+use Rattle.refusals.specs.declared.refusal.Refusal.{Refusal}
+use Rattle.std.specs.Prelude.{Ok, Err}
 
 -- how many jobs are closed so far, their tickets in order, and the state left
 pub record Closing : Type 0 where
@@ -33,23 +35,23 @@ close_held (suc left) c = elim (eqb (may_close_now c.state) 0) [ true ↦ c | fa
 unfoldable pub closing : Coordinator → ℕ → Closing
 closing s j = close_held jobs (close_one (record { count = 0; tickets = no_tickets; state = s }) j)
 
-abbrev pub after_closing : Closing → AfterClose
-after_closing c = record { answer = CloseAnswer.Closed c.count; tickets = c.tickets; state = c.state }
+abbrev pub after_closing : Closing → After (Option Closed)
+after_closing c = record { answer = Ok (Some (record { count = c.count; tickets = c.tickets })); state = c.state }
 
-unfoldable pub closed_at : Coordinator → ℕ → AfterClose
+unfoldable pub closed_at : Coordinator → ℕ → After (Option Closed)
 closed_at s j =
     elim (may_close s j) [
       | true ↦ after_closing (closing s j)
-      | false ↦ record { answer = CloseAnswer.Held; tickets = no_tickets; state = mark_held s j }
+      | false ↦ record { answer = Ok None; state = mark_held s j }
     ]
 
 -- refused, or done
-abbrev pub close_answered : Option ℕ → Coordinator → ℕ → AfterClose
-close_answered refusal s t = elim refusal [ none ↦ closed_at s (holder s t) | some n ↦ record { answer = CloseAnswer.Refused n; tickets = no_tickets; state = s } ]
+abbrev pub close_answered : Option Refusal → Coordinator → ℕ → After (Option Closed)
+close_answered refusal s t = elim refusal [ None ↦ closed_at s (holder s t) | Some r ↦ record { answer = Err r; state = s } ]
 
-unfoldable pub after_close : Coordinator → ℕ → AfterClose
+unfoldable pub after_close : Coordinator → ℕ → After (Option Closed)
 after_close s t = close_answered (close_refusal s t) s t
 
 -- the same, given whether the state is sound
-unfoldable pub after_close_tested : Bool → Coordinator → ℕ → AfterClose
+unfoldable pub after_close_tested : Bool → Coordinator → ℕ → After (Option Closed)
 after_close_tested is_sound s t = close_answered (close_refusal_tested is_sound s t) s t

@@ -1,10 +1,9 @@
--- The state: `Limits`, `Fresh`, `Views`, `Shape`, `State`. Which states are sound: `Sound`, and its test, `Test`. What the code reads of a state: `Tables`. The refusals: `Holder`, `Refusal`.
+-- The state: `Limits`, `Fresh`, `Views`, `Shape`. Which states are sound: `Sound`, and its test, `Test`. What the code reads of a state: `Tables`. The refusals: `Holder`, `Refusal`.
 -- The calls: `Change`, `Release`, `Open` (with `Bound`, how many moves it can take), `Ask`, `Confirm`, `Close`; what they answer in document 01's numbers: `Answer`, `Call`.
 pub mod Limits
 pub mod Fresh
 pub mod Views
 pub mod Shape
-pub mod State
 pub mod Sound
 pub mod Holder
 pub mod Test

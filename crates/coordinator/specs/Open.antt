@@ -1,6 +1,6 @@
 -- Opening a job. Assumes nothing: these are definitions.
 use Rattle.std.specs.Prelude.{ℕ, ◌+◌, ◌-◌, ◌^◌, Bool, List}
-use Rattle.std.proofs.Math.Option.{Option, none, some}
+use Rattle.std.specs.Prelude.{Option, None, Some}
 use Rattle.loops.specs.Loop.{over}
 use Rattle.loops.specs.Sum.{sum}
 use Rattle.loops.specs.Table.{table}
@@ -11,12 +11,14 @@ use Rattle.walks.specs.Rows.{rows}
 use Rattle.walks.specs.Search.{Seek, opening_search}
 use Rattle.numbers.specs.Ticket.{ticket_from, after}
 use Rattle.coordinator.specs.declared.Coordinator.{Coordinator}
-use Rattle.coordinator.specs.declared.answers.OpenAnswer.{OpenAnswer}
-use Rattle.coordinator.specs.declared.answers.AfterOpen.{AfterOpen}
 use Rattle.coordinator.specs.Limits.{jobs, databases, steps}
 use Rattle.coordinator.specs.Views.{entry, names, open_slots, open_count, ticket, opened, dep}
 use Rattle.coordinator.specs.Change.{with_dependencies, lead, taken}
 use Rattle.coordinator.specs.Refusal.{open_refusal, open_refusal_tested}
+use Rattle.coordinator.specs.declared.answers.After.{After}
+use Rattle.coordinator.specs.declared.answers.Opened.{Opened}
+use Rattle.refusals.specs.declared.refusal.Refusal.{Refusal}
+use Rattle.std.specs.Prelude.{Ok, Err}
 
 -- the lowest free slot
 unfoldable pub free_slot : Coordinator → ℕ
@@ -48,19 +50,19 @@ with_found s n found = with_dependencies s (over databases (λ k. lead k (entry 
 unfoldable pub added : List ℕ → ℕ
 added found = sum databases (λ k. size jobs (entry found k))
 
-unfoldable pub accepted : Coordinator → ℕ → ℕ → AfterOpen
+unfoldable pub accepted : Coordinator → ℕ → ℕ → After Opened
 accepted s n mask =
     let t : Coordinator = entered s n mask in
     let r : Seek (rows jobs databases) = searched t n in
-    record { answer = OpenAnswer.Opened (record { 0 = ticket_for s }) (added r.found) r.moves; state = with_found t n r.found }
+    record { answer = Ok (record { ticket = record { 0 = ticket_for s }; added = added r.found; moves = r.moves }); state = with_found t n r.found }
 
 -- refused, or done
-abbrev pub open_answered : Option ℕ → Coordinator → ℕ → AfterOpen
-open_answered refusal s mask = elim refusal [ none ↦ accepted s (free_slot s) mask | some n ↦ record { answer = OpenAnswer.Refused n; state = s } ]
+abbrev pub open_answered : Option Refusal → Coordinator → ℕ → After Opened
+open_answered refusal s mask = elim refusal [ None ↦ accepted s (free_slot s) mask | Some r ↦ record { answer = Err r; state = s } ]
 
-unfoldable pub after_open : Coordinator → ℕ → AfterOpen
+unfoldable pub after_open : Coordinator → ℕ → After Opened
 after_open s mask = open_answered (open_refusal s mask) s mask
 
 -- the same, given whether the state is sound
-unfoldable pub after_open_tested : Bool → Coordinator → ℕ → AfterOpen
+unfoldable pub after_open_tested : Bool → Coordinator → ℕ → After Opened
 after_open_tested is_sound s mask = open_answered (open_refusal_tested is_sound s mask) s mask

@@ -1,4 +1,4 @@
--- What the code reads of a state, told of the tables alone: inner functions are lent arrays and never see the state. Assumes nothing: these are definitions.
+-- What the code reads of a state, told of one table or two: small functions are lent these and not the state. Assumes nothing: these are definitions.
 use Rattle.std.specs.Prelude.{ℕ, ◌+◌, ◌*◌, Bool, true, false, not, ◌&&◌, ◌||◌, List, eqb, ltb}
 use Rattle.loops.specs.Loop.{every}
 use Rattle.loops.specs.Sum.{tally}
@@ -13,11 +13,6 @@ set_at sets k = elim (ltb k databases) [ true ↦ entry sets k | false ↦ 0 ]
 
 unfoldable pub ticket_at : List ℕ → ℕ → ℕ
 ticket_at tickets j = elim (ltb j jobs) [ true ↦ entry tickets j | false ↦ 0 ]
-
--- the steps at database k that are asked, unreleased, and may go
-unfoldable pub going_in : List ℕ → ℕ → ℕ → ℕ → ℕ → ℕ
-going_in dependencies k asked released confirmed =
-    gather jobs (λ j. tally (holds asked j && not (holds released j) && within jobs (entry dependencies (k * jobs + j)) confirmed))
 
 -- no dependency goes into slot j at any database; the held slots of which that is so
 unfoldable pub may_close_in : List ℕ → ℕ → Bool

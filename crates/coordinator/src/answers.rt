@@ -1,66 +1,34 @@
-// What each call answers. A refusal holds the number of document 01's table.
+// What each call answers that is not refused, and the state left.
 use crate::Coordinator;
 use numbers::Ticket;
+use refusals::Refusal;
 
-#[derive(Clone, Copy)]
-pub enum OpenAnswer {
-    Refused(u8),
-    Opened {
-        ticket: Ticket,
-        added: u32,
-        moves: u32,
-    },
+// The job's ticket, how many dependencies the opening search added, and its moves.
+#[derive(Clone, Copy, Debug, PartialEq, Eq)]
+pub struct Opened {
+    pub ticket: Ticket,
+    pub added: u32,
+    pub moves: u32,
 }
 
-#[derive(Clone, Copy)]
-pub enum AskAnswer {
-    Refused(u8),
+// The step goes now, or waits.
+#[derive(Clone, Copy, Debug, PartialEq, Eq)]
+pub enum Asked {
     Released,
     Held,
 }
 
-#[derive(Clone, Copy)]
-pub enum ConfirmAnswer {
-    Refused(u8),
-    Released(Ticket),
-    Nothing,
-}
-
-#[derive(Clone, Copy)]
-pub enum CloseAnswer {
-    Refused(u8),
-    Held,
-    Closed(u32),
-}
-
-#[derive(Clone, Copy)]
-pub struct AfterOpen {
-    pub answer: OpenAnswer,
-    pub state: Coordinator,
-}
-
-#[derive(Clone, Copy)]
-pub struct AfterAsk {
-    pub answer: AskAnswer,
-    pub state: Coordinator,
-}
-
-#[derive(Clone, Copy)]
-pub struct AfterConfirm {
-    pub answer: ConfirmAnswer,
-    pub state: Coordinator,
-}
-
-// The tickets closed, in order, stand beside the answer; zeros after them.
-#[derive(Clone, Copy)]
+// How many jobs were closed, and their tickets in order, with zeros after them: there is no heap for a Vec.
+#[derive(Clone, Copy, Debug, PartialEq, Eq)]
 pub struct Closed {
-    pub answer: CloseAnswer,
+    pub count: u32,
     pub tickets: [u16; Coordinator::JOBS],
 }
 
-#[derive(Clone, Copy)]
-pub struct AfterClose {
-    pub answer: CloseAnswer,
-    pub tickets: [u16; Coordinator::JOBS],
+// A call's answer or why it was refused, and the state left: a refusal leaves the one handed in.
+// Each of the four calls by value makes one from the call in place. One function for the four, given that call as a closure, would need a contract over any closure, longer than their three lines each.
+#[derive(Clone, Copy, Debug, PartialEq, Eq)]
+pub struct After<A> {
+    pub answer: Result<A, Refusal>,
     pub state: Coordinator,
 }

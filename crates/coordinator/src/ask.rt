@@ -1,71 +1,55 @@
 // Asking for a step.
-ghost use Rattle.std.specs.Prelude.{◌≡◌, List, ℕ};
-ghost use Rattle.coordinator.specs.declared.answers.AfterAsk.{AfterAsk};
-ghost use Rattle.coordinator.specs.State.{state_of};
-ghost use Rattle.coordinator.specs.Ask.{after_ask, after_ask_tested};
+ghost use Rattle.std.specs.Prelude.{◌≡◌, Ok};
+ghost use Rattle.coordinator.specs.declared.answers.After.{After};
+ghost use Rattle.coordinator.specs.declared.answers.Asked.{Asked};
+ghost use Rattle.coordinator.specs.Ask.{asked_for, after_ask, after_ask_tested};
 
-use crate::answers::{AfterAsk, AskAnswer};
+use crate::answers::{After, Asked};
+use crate::steps::Step;
 use crate::{Coordinator, release, slots, views};
 use numbers::{Database, Ticket};
-
-// Marks the step asked, and releases it if it may go: in place, on the tables that this reads or changes, given whether the state is sound.
-pub fn ask_tested<'a>(
-    sound: bool,
-    tickets: &'a [u16; Coordinator::JOBS],
-    named: &'a [u32; Coordinator::DATABASES],
-    asked: &mut [u32; Coordinator::DATABASES],
-    released: &mut [u32; Coordinator::DATABASES],
-    confirmed: &'a [u32; Coordinator::DATABASES],
-    dependencies: &mut [u32; Coordinator::STEPS],
-    ticket: Ticket,
-    database: Database,
-) -> AskAnswer
-    ensures { (held next : ℕ) (order : List ℕ) → ◌≡◌ {A = AfterAsk} (record { answer = result; state = state_of tickets.now held order named.now asked.new released.new confirmed.now dependencies.new next }) (after_ask_tested sound (state_of tickets.now held order named.now asked.old released.old confirmed.now dependencies.old next) ticket.0 database.0) }
-{
-    let found = tables::holders::holders_of(tickets, named, ticket);
-    let slot = slots::lowest_of(found);
-    let names = views::holds_at(named, database, slot);
-    let applies = views::holds_at(asked, database, slot);
-    let refused = refusals::of_step(sound, found, database, names, applies, 6);
-    if refused != 0 {
-        return AskAnswer::Refused(refused);
-    }
-    let k = database.0 as usize;
-    release::mark(asked, database, slot);
-    let step = k * Coordinator::JOBS + slot.0 as usize;
-    if !release::may_go(dependencies[step], confirmed[k]) {
-        return AskAnswer::Held;
-    }
-    release::mark(released, database, slot);
-    let later = mask::slots::less(named[k], released[k]);
-    release::lead_to(dependencies, database, slot, later);
-    AskAnswer::Released
-}
+use refusals::Refusal;
 
 impl Coordinator {
     // Marks the step asked, and releases it if it may go.
-    pub fn ask(mut self, ticket: Ticket, database: Database) -> AfterAsk
+    #[tactic(auto, unfolding(crate::specs::Ask::asked_for, crate::specs::Change::mark_asked, crate::specs::Release::may_go, crate::specs::Views::into))]
+    fn ask_for(&mut self, step: Step) -> Asked
+        ensures { ◌≡◌ {A = After Asked} (record { answer = Ok result; state = self.new }) (asked_for self.old step.slot.0 step.database.0) }
+    {
+        release::mark(&mut self.asked, step);
+        let into = self.dependencies[step.index()];
+        let confirmed = self.confirmed[step.database.0 as usize];
+        if !release::may_go(into, confirmed) {
+            return Asked::Held;
+        }
+        self.release(step);
+        Asked::Released
+    }
+
+    // In place, given whether the state is sound. A flag, since the answer is promised for both, whatever the test says (`Determined`).
+    pub fn ask_tested(
+        &mut self,
+        sound: bool,
+        ticket: Ticket,
+        database: Database,
+    ) -> Result<Asked, Refusal>
+        ensures { ◌≡◌ {A = After Asked} (record { answer = result; state = self.new }) (after_ask_tested sound self.old ticket.0 database.0) }
+    {
+        let found = tables::holders::holders_of(&self.tickets, &self.named, ticket);
+        let slot = slots::lowest_of(found);
+        let names = views::holds_at(&self.named, database, slot);
+        let before = views::holds_at(&self.asked, database, slot);
+        refusals::of_step(sound, found, database, names, before, Refusal::AskedBefore)?;
+        Ok(self.ask_for(Step { slot, database }))
+    }
+
+    // Marks the step asked, and releases it if it may go. Ticket and database by themselves, as README has the call.
+    pub fn ask(mut self, ticket: Ticket, database: Database) -> After<Asked>
         ensures { result ≡ after_ask self ticket.0 database.0 }
     {
         let sound = self.is_sound();
-        let mut asked = self.asked;
-        let mut released = self.released;
-        let mut dependencies = self.dependencies;
-        let answer = ask_tested(
-            sound,
-            &self.tickets,
-            &self.named,
-            &mut asked,
-            &mut released,
-            &self.confirmed,
-            &mut dependencies,
-            ticket,
-            database,
-        );
-        self.asked = asked;
-        self.released = released;
-        self.dependencies = dependencies;
-        AfterAsk {
+        let answer = self.ask_tested(sound, ticket, database);
+        After {
             answer,
             state: self,
         }

@@ -1,51 +1,29 @@
 // Closing a job, and then the held closes that may go.
-ghost use Rattle.std.specs.Prelude.{◌≡◌, ℕ};
-ghost use Rattle.mask.specs.Member.{lowest};
-ghost use Rattle.coordinator.specs.declared.answers.AfterClose.{AfterClose};
-ghost use Rattle.coordinator.specs.Limits.{jobs};
-ghost use Rattle.coordinator.specs.State.{state_of};
-ghost use Rattle.coordinator.specs.Close.{after_closing, closing};
+ghost use Rattle.std.specs.Prelude.{◌≡◌};
+ghost use Rattle.coordinator.specs.Close.{Closing, closing};
 
-use crate::answers::{CloseAnswer, Closed};
-use crate::{Coordinator, may_close, order, remove, slots};
+use crate::answers::Closed;
+use crate::steps::Job;
+use crate::{Coordinator, may_close, slots};
 
-// Closes the first of those found to hold the ticket; then, as long as some held close may go, the first of these.
-pub(crate) fn close_from(
-    tickets: &mut [u16; Coordinator::JOBS],
-    held: &mut u32,
-    order: &mut [u8; Coordinator::JOBS],
-    named: &mut [u32; Coordinator::DATABASES],
-    asked: &mut [u32; Coordinator::DATABASES],
-    released: &mut [u32; Coordinator::DATABASES],
-    confirmed: &mut [u32; Coordinator::DATABASES],
-    dependencies: &mut [u32; Coordinator::STEPS],
-    found: u32,
-) -> Closed
-    requires { ¬ (found ≡ 0) }
-    ensures { (next : ℕ) → ◌≡◌ {A = AfterClose} (record { answer = result.answer; tickets = result.tickets; state = state_of tickets.new held.new order.new named.new asked.new released.new confirmed.new dependencies.new next }) (after_closing (closing (state_of tickets.old held.old order.old named.old asked.old released.old confirmed.old dependencies.old next) (lowest jobs found))) }
-{
-    let mut closed = [0u16; Coordinator::JOBS];
-    let mut count = 0usize;
-    let mut left = found;
-    while left != 0 {
-        let j = slots::lowest_of(left);
-        let at = j.0 as usize;
-        closed[count] = tickets[at];
-        count = count + 1;
-        tickets[at] = 0;
-        *held = mask::slots::without_member(*held, j.0);
-        let place = order::place(order, j);
-        *order = order::moved_up(*order, place);
-        remove::strike(named, j);
-        remove::strike(asked, j);
-        remove::strike(released, j);
-        remove::strike(confirmed, j);
-        remove::strike_rows(dependencies, j);
-        remove::unlead(dependencies, j);
-        left = may_close::may_close_now(dependencies, *held);
-    }
-    Closed {
-        answer: CloseAnswer::Closed(count as u32),
-        tickets: closed,
+impl Coordinator {
+    // Closes the job; then, as long as some held close may go, the first of these. Which may go is asked anew after each, so this is no `for`; the tickets are an array, since there is no heap.
+    pub(crate) fn close_from(&mut self, job: Job) -> Closed
+        ensures { ◌≡◌ {A = Closing} (record { count = result.count; tickets = result.tickets; state = self.new }) (closing self.old job.slot.0) }
+    {
+        let mut tickets = [0u16; Coordinator::JOBS];
+        let mut count = 0usize;
+        let mut left = 1u32 << job.slot.0;
+        while left != 0 {
+            let slot = slots::lowest_of(left);
+            tickets[count] = self.tickets[slot.0 as usize];
+            count += 1;
+            self.remove(Job { slot });
+            left = may_close::may_close_now(&self.dependencies, self.held);
+        }
+        Closed {
+            count: count as u32,
+            tickets,
+        }
     }
 }

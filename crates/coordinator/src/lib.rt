@@ -6,7 +6,6 @@ mod bound;
 mod cascade;
 pub mod close;
 pub mod confirm;
-mod count;
 mod enter;
 mod may_close;
 pub mod open;
@@ -15,6 +14,7 @@ mod release;
 mod remove;
 mod slots;
 mod sound;
+mod steps;
 mod tickets;
 mod views;
 
@@ -25,7 +25,8 @@ use numbers::{Database, NumberMaker, Slot, Ticket};
 
 // The state, by sets of slots. At database k: the slots whose job names k, and those whose step there is asked, released, confirmed.
 // At k * JOBS + b: the slots that go before slot b at k. By slot: the job's ticket, whether its close is held. Then the opening order.
-#[derive(Clone, Copy)]
+// Arrays beside each other, the opening order with zeros after it, and one table for both sides: the definitions and the bytes for C have them so.
+#[derive(Clone, Copy, Debug, PartialEq, Eq)]
 pub struct Coordinator {
     pub tickets: [u16; Coordinator::JOBS],
     pub held: u32,
@@ -43,7 +44,7 @@ impl Coordinator {
 
     pub const DATABASES: usize = Database::COUNT;
 
-    pub const STEPS: usize = Coordinator::JOBS * Coordinator::DATABASES;
+    pub const STEPS: usize = numbers::STEPS;
 
     // A fresh start at any first candidate.
     pub fn fresh(first: Ticket) -> Coordinator

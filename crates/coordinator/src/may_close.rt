@@ -1,21 +1,22 @@
 // When a job may close: its steps are confirmed, and nobody goes before it any more.
-ghost use Rattle.std.specs.Prelude.{not, ◌&&◌, ◌≡◌, ℕ, ◌*◌, ◌^◌, ◌<◌};
-ghost use Rattle.loops.specs.Sum.{tally};
+ghost use Rattle.std.specs.Prelude.{not, ◌&&◌, ◌≡◌, ℕ};
 ghost use Rattle.mask.specs.Member.{holds};
-ghost use Rattle.coordinator.specs.Limits.{jobs};
 ghost use Rattle.coordinator.specs.Tables.{may_close_in, may_close_now_in, all_confirmed_in};
 
-use crate::{Coordinator, slots};
+use crate::Coordinator;
+use crate::steps::Job;
+use mask::Set;
 use numbers::Slot;
 
 // The slots whose step at a database is named and not confirmed, told by its members.
 fn unconfirmed(named: u32, confirmed: u32) -> u32
     ensures { (j : ℕ) → holds result j ≡ holds named j && not (holds confirmed j) }
 {
-    mask::slots::less(named, confirmed)
+    named.less(confirmed)
 }
 
 // Every step of the job in slot j is confirmed: it is not among those with a step that isn't.
+#[tactic(auto, using(crate::proofs::Unconfirmed::gathers), unfolding(crate::specs::Tables::all_confirmed_in))]
 pub(crate) fn all_confirmed<'a>(
     named: &'a [u32; Coordinator::DATABASES],
     confirmed: &'a [u32; Coordinator::DATABASES],
@@ -24,48 +25,28 @@ pub(crate) fn all_confirmed<'a>(
     ensures { result ≡ all_confirmed_in named.now confirmed.now j.0 }
 {
     let mut unfinished = 0u32;
-    for k in 0..Coordinator::DATABASES {
-        unfinished = unfinished | unconfirmed(named[k], confirmed[k]);
+    for (k, named) in named.iter().enumerate() {
+        unfinished |= unconfirmed(*named, confirmed[k]);
     }
-    !mask::slots::holds(unfinished, j.0)
+    !unfinished.holds(j.0)
 }
 
-// No dependency goes into the job in slot j at any database.
-pub(crate) fn may_close(dependencies: &[u32; Coordinator::STEPS], j: Slot) -> bool
-    requires { j.0 < jobs }
-    ensures { result ≡ may_close_in dependencies.now j.0 }
+// No dependency goes into the job at any database.
+pub(crate) fn may_close(dependencies: &[u32; Coordinator::STEPS], job: Job) -> bool
+    ensures { result ≡ may_close_in dependencies.now job.slot.0 }
 {
-    let b = j.0 as usize;
-    for k in 0..Coordinator::DATABASES {
-        if dependencies[k * Coordinator::JOBS + b] != 0 {
-            return false;
-        }
-    }
-    true
+    let b = job.slot.0 as usize;
+    (0..Coordinator::DATABASES).all(|k| dependencies[k * Coordinator::JOBS + b] == 0)
 }
 
-// Slot j as a set, where it may close.
-fn free(dependencies: &[u32; Coordinator::STEPS], j: Slot) -> u32
-    requires { j.0 < jobs }
-    ensures { result ≡ tally (may_close_in dependencies.now j.0) * 2 ^ j.0 }
-{
-    if may_close(dependencies, j) {
-        1 << j.0
-    } else {
-        0
-    }
-}
-
-// The held closes that may go. Only held slots are looked at: mostly there are few.
+// The held closes that may go. Only held slots are looked at, and not all as by mask::gathered: mostly there are few.
 pub(crate) fn may_close_now(dependencies: &[u32; Coordinator::STEPS], held: u32) -> u32
     ensures { result ≡ may_close_now_in dependencies.now held }
 {
     let mut found = 0u32;
-    let mut left = held;
-    while left != 0 {
-        let j = slots::lowest_of(left);
-        found = found | free(dependencies, j);
-        left = mask::slots::rest(left);
+    for j in held.members() {
+        let job = Job { slot: Slot(j) };
+        found |= u32::from(may_close(dependencies, job)) << j;
     }
     found
 }

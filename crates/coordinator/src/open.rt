@@ -1,83 +1,59 @@
 // Opening a job.
-ghost use Rattle.std.specs.Prelude.{List, ◌≡◌, ℕ, length};
-ghost use Rattle.coordinator.specs.declared.answers.AfterOpen.{AfterOpen};
+ghost use Rattle.std.specs.Prelude.{◌≡◌, Ok};
+ghost use Rattle.mask.specs.Member.{size};
+ghost use Rattle.tables.specs.Tables.{open_in};
+ghost use Rattle.coordinator.specs.declared.answers.After.{After};
+ghost use Rattle.coordinator.specs.declared.answers.Opened.{Opened};
 ghost use Rattle.coordinator.specs.Limits.{jobs};
-ghost use Rattle.coordinator.specs.State.{state_of};
-ghost use Rattle.coordinator.specs.Open.{after_open, after_open_tested};
+ghost use Rattle.coordinator.specs.Open.{free_slot, accepted, after_open, after_open_tested};
 
-use crate::answers::{AfterOpen, OpenAnswer};
-use crate::{Coordinator, count, enter, slots, tickets};
-use numbers::NumberMaker;
-
-// Gives the job a slot and a number, and puts those before it that it has to wait for:
-// in place, on the tables that this reads or changes, given whether the state is sound.
-pub fn open_tested(
-    sound: bool,
-    tickets: &mut [u16; Coordinator::JOBS],
-    order: &mut [u8; Coordinator::JOBS],
-    named: &mut [u32; Coordinator::DATABASES],
-    released: &[u32; Coordinator::DATABASES],
-    dependencies: &mut [u32; Coordinator::STEPS],
-    next: &mut u16,
-    mask: u16,
-) -> OpenAnswer
-    ensures { length tickets.old ≡ jobs → (held : ℕ) (asked confirmed : List ℕ) → ◌≡◌ {A = AfterOpen} (record { answer = result; state = state_of tickets.new held order.new named.new asked released.now confirmed dependencies.new next.new }) (after_open_tested sound (state_of tickets.old held order.old named.old asked released.now confirmed dependencies.old next.old) mask) }
-{
-    let slots = tables::slots::open_slots(named);
-    let refused = refusals::of_open(sound, mask, slots);
-    if refused != 0 {
-        return OpenAnswer::Refused(refused);
-    }
-    let n = slots::lowest_of(!slots);
-    let open = mask::slots::size(slots) as usize;
-    let candidate = NumberMaker { next: *next };
-    let handed = tickets::hand_out(candidate, tickets, order, open);
-    let ticket = handed.ticket;
-    *next = handed.maker.next;
-    let at = n.0 as usize;
-    tickets[at] = ticket.0;
-    order[open] = n.0;
-    enter::name_databases(named, mask, n);
-    enter::lead_released(dependencies, released, mask, n);
-    let sought = search::search(named, dependencies, n);
-    let found = sought.found;
-    enter::lead_found(dependencies, &found, n);
-    let added = count::count_all(&found);
-    OpenAnswer::Opened {
-        ticket,
-        added,
-        moves: sought.moves,
-    }
-}
+use crate::answers::{After, Opened};
+use crate::steps::Job;
+use crate::{Coordinator, enter, slots, tickets};
+use mask::Set;
+use refusals::Refusal;
 
 impl Coordinator {
+    // The job takes the first slot that is free of the open ones, and a number; those before it that it has to wait for are put there.
+    fn accept(&mut self, slots: u32, mask: u16) -> Opened
+        requires { (slots ≡ open_in self.old.named) × ¬ (size jobs slots ≡ jobs) }
+        ensures { ◌≡◌ {A = After Opened} (record { answer = Ok result; state = self.new }) (accepted self.old (free_slot self.old) mask) }
+    {
+        let slot = slots::lowest_of(!slots);
+        let count = slots.size() as usize;
+        let held = tickets::held_tickets(&self.tickets, &self.order, count);
+        let ticket = self.maker.take(&held[..count]);
+        self.tickets[slot.0 as usize] = ticket.0;
+        self.order[count] = slot.0;
+        let job = Job { slot };
+        enter::name_databases(&mut self.named, mask, job);
+        enter::lead_released(&mut self.dependencies, &self.released, mask, job);
+        let sought = search::search(&self.named, &self.dependencies, slot);
+        enter::lead_found(&mut self.dependencies, &sought.found, job);
+        let added = search::count_all(&sought.found);
+        Opened {
+            ticket,
+            added,
+            moves: sought.moves,
+        }
+    }
+
+    // In place, given whether the state is sound. A flag, since the answer is promised for both, whatever the test says (`Determined`).
+    pub fn open_tested(&mut self, sound: bool, mask: u16) -> Result<Opened, Refusal>
+        ensures { ◌≡◌ {A = After Opened} (record { answer = result; state = self.new }) (after_open_tested sound self.old mask) }
+    {
+        let slots = tables::slots::open_slots(&self.named);
+        refusals::of_open(sound, mask, slots)?;
+        Ok(self.accept(slots, mask))
+    }
+
     // Gives the job a slot and a number, and puts those before it that it has to wait for.
-    pub fn open(mut self, mask: u16) -> AfterOpen
+    pub fn open(mut self, mask: u16) -> After<Opened>
         ensures { result ≡ after_open self mask }
     {
         let sound = self.is_sound();
-        let mut tickets = self.tickets;
-        let mut order = self.order;
-        let mut named = self.named;
-        let mut dependencies = self.dependencies;
-        let mut next = self.maker.next;
-        let answer = open_tested(
-            sound,
-            &mut tickets,
-            &mut order,
-            &mut named,
-            &self.released,
-            &mut dependencies,
-            &mut next,
-            mask,
-        );
-        self.tickets = tickets;
-        self.order = order;
-        self.named = named;
-        self.dependencies = dependencies;
-        let maker = NumberMaker { next };
-        self.maker = maker;
-        AfterOpen {
+        let answer = self.open_tested(sound, mask);
+        After {
             answer,
             state: self,
         }

@@ -1,14 +1,13 @@
 // What ask and confirm share: when a step may go, which of those that wait may, and what a release does to the tables.
-ghost use Rattle.std.specs.Prelude.{◌≡◌, ℕ, ◌+◌, ◌*◌, ◌^◌, ◌<◌};
-ghost use Rattle.loops.specs.Sum.{tally};
+ghost use Rattle.std.specs.Prelude.{◌≡◌};
 ghost use Rattle.mask.specs.Member.{within};
-ghost use Rattle.coordinator.specs.Limits.{jobs, databases};
-ghost use Rattle.coordinator.specs.Views.{entry};
+ghost use Rattle.coordinator.specs.Limits.{jobs};
 ghost use Rattle.coordinator.specs.Change.{mark, lead_to};
-ghost use Rattle.coordinator.specs.Tables.{going_in};
+ghost use Rattle.coordinator.specs.Release.{may_go_at, release};
 
 use crate::Coordinator;
-use numbers::{Database, Slot};
+use crate::steps::Step;
+use mask::Set;
 
 // A step may go: every one that leads into it is confirmed.
 pub(crate) fn may_go(into: u32, confirmed: u32) -> bool
@@ -17,59 +16,43 @@ pub(crate) fn may_go(into: u32, confirmed: u32) -> bool
     into & !confirmed == 0
 }
 
-// Slot j joins the set at database k.
-pub(crate) fn mark(sets: &mut [u32; Coordinator::DATABASES], k: Database, j: Slot)
-    requires { (k.0 < databases) × (j.0 < jobs) }
-    ensures { sets.new ≡ mark sets.old k.0 j.0 }
+// The step's job joins the set at its database.
+pub(crate) fn mark(sets: &mut [u32; Coordinator::DATABASES], step: Step)
+    ensures { sets.new ≡ mark sets.old step.database.0 step.slot.0 }
 {
-    let at = k.0 as usize;
-    let m = sets[at];
-    sets[at] = m | 1 << j.0;
+    sets[step.database.0 as usize] |= 1 << step.slot.0;
 }
 
-// At database k, slot a goes before each of the later ones.
-pub(crate) fn lead_to(
-    dependencies: &mut [u32; Coordinator::STEPS],
-    k: Database,
-    a: Slot,
-    later: u32,
-)
-    requires { (k.0 < databases) × (a.0 < jobs) }
-    ensures { dependencies.new ≡ lead_to k.0 a.0 later dependencies.old }
+// At the step's database, its job goes before each of the later ones. As `put_ahead` of crate search, with words of 32 for 16: one for both would be lent a part of the table, and be longer than the two.
+fn lead_to(dependencies: &mut [u32; Coordinator::STEPS], step: Step, later: u32)
+    ensures { dependencies.new ≡ lead_to step.database.0 step.slot.0 later dependencies.old }
 {
-    let first = k.0 as usize * Coordinator::JOBS;
-    let mut left = later;
-    while left != 0 {
-        let b = mask::slots::lowest(left) as usize;
-        let before = dependencies[first + b];
-        dependencies[first + b] = before | 1 << a.0;
-        left = mask::slots::rest(left);
+    let first = step.database.0 as usize * Coordinator::JOBS;
+    for b in later.members() {
+        dependencies[first + b as usize] |= 1 << step.slot.0;
     }
 }
 
-// Slot j as a set where its step may go, and no slot otherwise.
-fn going(into: u32, confirmed: u32, j: usize) -> u32
-    requires { j < jobs }
-    ensures { result ≡ tally (within jobs into confirmed) * 2 ^ j }
-{
-    if may_go(into, confirmed) { 1 << j } else { 0 }
-}
-
-// The asked and unreleased steps at database k that may go. All rows are read without a branch: that is faster than to pick those that wait.
-pub(crate) fn going_of(
-    dependencies: &[u32; Coordinator::STEPS],
-    k: usize,
-    asked: u32,
-    released: u32,
-    confirmed: u32,
-) -> u32
-    requires { k < databases }
-    ensures { result ≡ going_in dependencies.now k asked released confirmed }
-{
-    let first = k * Coordinator::JOBS;
-    let mut free = 0u32;
-    for j in 0..Coordinator::JOBS {
-        free = free | going(dependencies[first + j], confirmed, j);
+impl Coordinator {
+    // The step goes, before each that names its database and is not released.
+    #[tactic(auto, unfolding(crate::specs::Release::release, crate::specs::Change::mark_released, crate::specs::Change::with_dependencies))]
+    pub(crate) fn release(&mut self, step: Step)
+        ensures { self.new ≡ release self.old step.slot.0 step.database.0 }
+    {
+        mark(&mut self.released, step);
+        let at = step.database.0 as usize;
+        let later = self.named[at].less(self.released[at]);
+        lead_to(&mut self.dependencies, step, later);
     }
-    mask::slots::less(asked, released) & free
+
+    // The asked and unreleased steps at the step's database that may go, by their slots. All rows are read without a branch: that is faster than to pick those that wait.
+    pub(crate) fn going_beside(&self, step: Step) -> u32
+        ensures { result ≡ may_go_at self.now step.database.0 }
+    {
+        let at = step.database.0 as usize;
+        let first = at * Coordinator::JOBS;
+        let confirmed = self.confirmed[at];
+        let free = mask::gathered(|j| may_go(self.dependencies[first + j], confirmed));
+        self.asked[at].less(self.released[at]) & free
+    }
 }

@@ -3,11 +3,12 @@ ghost use Rattle.std.specs.Prelude.{◌≡◌};
 ghost use Rattle.mask.specs.Member.{lowest};
 ghost use Rattle.coordinator.specs.Limits.{jobs};
 
+use mask::Set;
 use numbers::Slot;
 
-// The lowest slot of a set; JOBS where there is none.
+// The lowest slot of a set; JOBS where there is none. No Option: `holder` has it so, and the rows of a refusal are told of that slot too.
 pub(crate) fn lowest_of(set: u32) -> Slot
     ensures { result.0 ≡ lowest jobs set }
 {
-    Slot(mask::slots::lowest(set) as u8)
+    Slot(set.lowest() as u8)
 }

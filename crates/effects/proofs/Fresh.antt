@@ -2,11 +2,11 @@
 use Prim.Native.Nat.{ℕ, ◌+◌, ◌*◌, ◌^◌, ◌<◌}
 use native.Mathlib.Decide.{dec_lt}
 use native.Mathlib.Omega.{arith}
-use mathlib.Core.Bool.{Bool, true, false}
+use mathlib.Core.Bool.{false}
 use mathlib.Core.Path.{◌≡◌, refl, ap, sym, ◌∙◌}
 use lib.ListN.{replicate, length-replicate, get_or-replicate, get_or-eq_default}
 use lib.Pow.{pow_pos}
-use Rattle.loops.proofs.Tests.{both}
+use Rattle.loops.proofs.Tests.{untrue, both}
 use Rattle.mask.specs.Member.{holds, size}
 use Rattle.mask.proofs.Equal.{equal_members}
 use Rattle.mask.proofs.Holds.{holds_none}
@@ -50,11 +50,7 @@ module _ (n : ℕ) (small : n < 2 ^ 16) where
   names_fresh a u = zeros_hold databases u a
 
   open_fresh : (a : ℕ) → is_open (fresh n) a ≡ false
-  open_fresh a = by (is_open (fresh n) a) refl
-    where
-      by : (b : Bool) → is_open (fresh n) a ≡ b → is_open (fresh n) a ≡ false
-      by true e = let (k, l, q) = (open_iff (fresh n) shape_fresh a).0 e in both q (names_fresh a k)
-      by false e = e
+  open_fresh a = untrue (is_open (fresh n) a) (λ e. let (k, l, q) = (open_iff (fresh n) shape_fresh a).0 e in both q (names_fresh a k))
 
   count_fresh : open_count (fresh n) ≡ 0
   unfolding open_count is_open

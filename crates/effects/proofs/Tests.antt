@@ -3,8 +3,9 @@ use Prim.Native.Nat.{ℕ, ◌^◌, ◌<◌}
 use native.Mathlib.Omega.{arith}
 use mathlib.Core.Bool.{true, false, not, ◌&&◌}
 use mathlib.Core.Logic.{◌↔◌}
-use mathlib.Core.Path.{◌≡◌}
-use borrow.Author.Tests.{eq-eqb, eqb-true, eqb-false}
+use mathlib.Core.Path.{◌≡◌, sym, ◌∙◌}
+use borrow.Author.Tests.{eq-eqb, eqb-true, eqb-false, not-true}
+use Rattle.loops.proofs.Tests.{and_left, and_right}
 use Rattle.loops.proofs.Turns.{every_at, every_of, every_not}
 use Rattle.mask.specs.Member.{holds}
 use Rattle.mask.proofs.Equal.{empty_iff, within_iff}
@@ -50,12 +51,24 @@ module _ (s : Coordinator) (h : Shape s) where
 
 -- who may go now, and who goes: one of them
 
+-- in slot f, the step at database k that goes; the held close that goes
+pub record ToGo (s : Coordinator) (k f : ℕ) : Type 0 where
+  pub slot : f < jobs
+  pub asks : asked s f k ≡ true
+  pub unreleased : released s f k ≡ false
+  pub goes : may_go s f k ≡ true
+
+pub record ToClose (s : Coordinator) (f : ℕ) : Type 0 where
+  pub slot : f < jobs
+  pub is_held : held s f ≡ true
+  pub goes : may_close s f ≡ true
+
 module _ (s : Coordinator) where
-  pub may_go_at_lem : (k j : ℕ) → j < jobs → holds (may_go_at s k) j ≡ asked s j k && not (released s j k) && may_go s j k
+  may_go_at_lem : (k j : ℕ) → j < jobs → holds (may_go_at s k) j ≡ asked s j k && not (released s j k) && may_go s j k
   unfolding may_go_at
   may_go_at_lem k j l = holds_gather (λ j. asked s j k && not (released s j k) && may_go s j k) jobs j l
 
-  pub may_go_at_small : (k : ℕ) → may_go_at s k < 2 ^ jobs
+  may_go_at_small : (k : ℕ) → may_go_at s k < 2 ^ jobs
   unfolding may_go_at
   may_go_at_small k = gathered_lt (λ j. asked s j k && not (released s j k) && may_go s j k) jobs
 
@@ -63,11 +76,11 @@ module _ (s : Coordinator) where
   unfolding may_go_at
   none_may_go k = gathered_none (λ j. asked s j k && not (released s j k) && may_go s j k) jobs
 
-  pub may_close_now_lem : (j : ℕ) → j < jobs → holds (may_close_now s) j ≡ held s j && may_close s j
+  may_close_now_lem : (j : ℕ) → j < jobs → holds (may_close_now s) j ≡ held s j && may_close s j
   unfolding may_close_now
   may_close_now_lem j l = holds_gather (λ j. held s j && may_close s j) jobs j l
 
-  pub may_close_now_small : may_close_now s < 2 ^ jobs
+  may_close_now_small : may_close_now s < 2 ^ jobs
   unfolding may_close_now
   may_close_now_small = gathered_lt (λ j. held s j && may_close s j) jobs
 
@@ -76,8 +89,28 @@ module _ (s : Coordinator) where
   none_may_close = gathered_none (λ j. held s j && may_close s j) jobs
 
   -- whichever goes, it is one of them: only this is used of the choice
-  pub first_of_lem : (m : ℕ) → m < 2 ^ jobs → ¬ (m ≡ 0) → (first_of s m < jobs) × (holds m (first_of s m) ≡ true)
+  first_of_lem : (m : ℕ) → m < 2 ^ jobs → ¬ (m ≡ 0) → (first_of s m < jobs) × (holds m (first_of s m) ≡ true)
   unfolding first_of
   first_of_lem m b ne =
       let l = trailing_lowest jobs m (omega arith) b in
       (l.within, lowest_holds l)
+
+  pub first_to_go : (k : ℕ) → ¬ (may_go_at s k ≡ 0) → ToGo s k (first_of s (may_go_at s k))
+  first_to_go k any =
+      let f : ℕ = first_of s (may_go_at s k) in
+      let (l, m) = first_of_lem (may_go_at s k) (may_go_at_small k) any in
+      let all = sym (may_go_at_lem k f l) ∙ m in
+      let waits = and_left (asked s f k && not (released s f k)) (may_go s f k) all in
+      record {
+        slot = l;
+        asks = and_left (asked s f k) (not (released s f k)) waits;
+        unreleased = not-true (released s f k) (and_right (asked s f k) (not (released s f k)) waits);
+        goes = and_right (asked s f k && not (released s f k)) (may_go s f k) all;
+      }
+
+  pub first_to_close : ¬ (may_close_now s ≡ 0) → ToClose s (first_of s (may_close_now s))
+  first_to_close any =
+      let f : ℕ = first_of s (may_close_now s) in
+      let (l, m) = first_of_lem (may_close_now s) may_close_now_small any in
+      let all = sym (may_close_now_lem f l) ∙ m in
+      record { slot = l; is_held = and_left (held s f) (may_close s f) all; goes = and_right (held s f) (may_close s f) all }

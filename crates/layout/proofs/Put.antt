@@ -1,6 +1,6 @@
 -- The laws of texts put into a buffer. Assumes nothing.
 use Prim.Native.Nat.{ℕ, ◌+◌, ◌≤◌, ◌<◌}
-use mathlib.Core.Path.{◌≡◌, refl, sym, ap, subst, ◌∙◌}
+use mathlib.Core.Path.{◌≡◌, sym, ap, subst, ◌∙◌}
 use mathlib.Core.List.{List, [], ◌∷◌, ◌++◌, append_assoc, append-nil}
 use native.Mathlib.Omega.{arith}
 use native.Mathlib.Nat.{add_assoc, add-zero}
@@ -78,11 +78,3 @@ filled_to q {o} {at} {t} {p} {o₁} f e = subst (λ (x : ℕ). Filled o at t x o
 
 pub filled_long : (o : List ℕ) (at : ℕ) (t : List ℕ) (p : ℕ) (o₁ : List ℕ) → Filled o at t p o₁ → length o₁ ≡ length o
 filled_long o at t p o₁ f = ap length f.is ∙ length_put o at t (omega (arith, f.ends, f.room))
-
--- bytes stored one by one
-pub put_two : (o : List ℕ) (at a b : ℕ) → at + 2 ≤ length o → set (set o at a) (at + 1) b ≡ put o at (a ∷ b ∷ [])
-put_two o at a b h = (then_byte o at (a ∷ []) b (at + 1) (set o at a) refl (omega arith) (put_one o at a (omega arith))).1
-
-pub put_four : (o : List ℕ) (at a b c d : ℕ) → at + 4 ≤ length o → set (set (set (set o at a) (at + 1) b) (at + 2) c) (at + 3) d ≡ put o at (a ∷ b ∷ c ∷ d ∷ [])
-put_four o at a b c d h =
-    (then_byte o at (a ∷ b ∷ c ∷ []) d (at + 3) _ refl (omega arith) (then_byte o at (a ∷ b ∷ []) c (at + 2) _ refl (omega arith) (put_two o at a b (omega arith))).1).1

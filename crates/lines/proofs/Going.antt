@@ -1,7 +1,7 @@
 -- The loop of `play_all`: what is done, with what is still to be done, is the whole. Assumes nothing.
 use Prim.Native.Nat.{ℕ, suc, ◌+◌, ◌*◌, ◌/◌, ◌≤◌, ◌<◌}
 use mathlib.Core.Path.{◌≡◌, refl, sym, ap, ◌∙◌}
-use mathlib.Core.Bool.{false}
+use Rattle.std.specs.Prelude.{Some}
 use mathlib.Core.List.{List, [], ◌∷◌, ◌++◌}
 use native.Mathlib.Omega.{arith}
 use lib.ListN.{length, drop, get_or, length-append, length-drop, drop_of_length-le}
@@ -9,9 +9,7 @@ use lib.Seq.{drop-cons}
 use Rattle.coordinator.specs.declared.Coordinator.{Coordinator}
 use Rattle.layout.specs.Put.{put, Counts}
 use Rattle.layout.proofs.Put.{put_none, put_put, length_put, counts}
-use Rattle.record.specs.Record.{call_of}
-use Rattle.lines.specs.Record.{two_bytes}
-use Rattle.lines.specs.Answered.{Answered, answered}
+use Rattle.lines.specs.Answered.{Answered}
 use Rattle.lines.specs.Line.{longest}
 use Rattle.lines.specs.Lines.{answer, line_of, left_over, lines_of, state_after, lines_in}
 use Rattle.lines.specs.Playing.{Playing, all}
@@ -30,13 +28,6 @@ four b at h =
 
 abbrev pub answer_at : Coordinator → List ℕ → ℕ → Answered
 answer_at s b at = answer s (get_or b at 0) (get_or b (at + 1) 0) (get_or b (at + 2) 0) (get_or b (at + 3) 0)
-
--- as the code reads it: the value's two bytes first
-pub answer_is : (t : Coordinator) (b : List ℕ) (at v : ℕ) (q : Answered) → q ≡ answered t (call_of (get_or b at 0) (get_or b (at + 1) 0) v) →
-    v ≡ two_bytes (get_or b (at + 2) 0) (get_or b (at + 2 + 1) 0) → q ≡ answer_at t b at
-answer_is t b at v q eq ev =
-    let e : at + 2 + 1 ≡ at + 3 = omega arith in
-    eq ∙ ap (λ (x : ℕ). answered t (call_of (get_or b at 0) (get_or b (at + 1) 0) x)) (ev ∙ ap (λ (k : ℕ). two_bytes (get_or b (at + 2) 0) (get_or b k 0)) e)
 
 lines_on : (i : ℕ) (s : Coordinator) (b : List ℕ) (at : ℕ) → at + 4 ≤ length b →
     lines_of i s (drop at b) ≡ line_of i (answer_at s b at) ++ lines_of (i + 1) (answer_at s b at).state (drop (at + 4) b)
@@ -71,26 +62,23 @@ pub record Going (index : ℕ) (s : Coordinator) (b o₀ o : List ℕ) (t : Coor
 pub start : (index : ℕ) (s : Coordinator) (b o : List ℕ) → Going index s b o o s index 0 0
 start index s b o = record { here = omega arith; count = omega arith; room = omega arith; long = refl; size = omega arith; text = refl; left = refl }
 
--- what is returned and the buffer left, from their parts
+-- what is returned and left, from its parts
 ended : (s : Coordinator) (index : ℕ) (b o₀ : List ℕ) (t : Coordinator) (i w : ℕ) (o : List ℕ) → t ≡ state_after s b → i ≡ index + lines_in b → w ≡ length (lines_of index s b) →
-    o ≡ put o₀ 0 (lines_of index s b) → ◌≡◌ {A = Playing} (record { played = record { state = t; index = i; wrote = w; refused = false }; out = o }) (all s index b o₀)
-ended s index b o₀ t i w o et ei ew eo = λ k. record { played = record { state = et k; index = ei k; wrote = ew k; refused = false }; out = eo k }
+    o ≡ put o₀ 0 (lines_of index s b) → ◌≡◌ {A = Playing} (record { played = Some (record { index = i; wrote = w }); state = t; out = o }) (all s index b o₀)
+ended s index b o₀ t i w o et ei ew eo = λ k. record { played = Some (record { index = ei k; wrote = ew k }); state = et k; out = eo k }
 
 module _ (index : ℕ) (s : Coordinator) (b o₀ o : List ℕ) (t : Coordinator) (i at w : ℕ) (g : Going index s b o₀ o t i at w) (fits : length b / 4 < length o₀ / longest) where
   -- a line more has room
-  pub room_on : at + 4 ≤ length b → w + longest ≤ length o
-  room_on h = omega (arith, g.room, g.count, g.long)
-
-  pub room_left : at < length b → w + longest ≤ length o
-  room_left h = omega (arith, g.room, g.count, g.long, g.here)
+  pub room_on : at < length b → w + longest ≤ length o
+  room_on h = omega (arith, g.room, g.count, g.long, g.here)
 
   -- a whole record more
-  pub on : (q : Answered) (r : ℕ) (o₁ : List ℕ) → q ≡ answer_at t b at → at + 4 ≤ length b → r ≡ w + length (line_of i q) → r ≤ w + longest → o₁ ≡ put o w (line_of i q) →
-      Going index s b o₀ o₁ q.state (i + 1) (at + 4) r
-  on q r o₁ eq h er lr eo =
+  pub on : (q : Answered) (r : ℕ) (o₁ : List ℕ) (j next : ℕ) → q ≡ answer_at t b at → at + 4 ≤ length b → j ≡ i + 1 → next ≡ at + 4 → r ≡ w + length (line_of i q) → r ≤ w + longest → o₁ ≡ put o w (line_of i q) →
+      Going index s b o₀ o₁ q.state j next r
+  on q r o₁ j next eq h ej en er lr eo =
       let e : lines_of i t (drop at b) ≡ line_of i q ++ lines_of (i + 1) q.state (drop (at + 4) b) = rw eq (lines_on i t b at h) in
-      let m : w + longest ≤ length o = room_on h in
-      record {
+      let m : w + longest ≤ length o = room_on (omega (arith, h)) in
+      rw (ej, en) (record {
         here = h;
         count = omega (arith, g.count);
         room = omega (arith, g.room);
@@ -98,14 +86,14 @@ module _ (index : ℕ) (s : Coordinator) (b o₀ o : List ℕ) (t : Coordinator)
         size = omega (arith, simp length-append at (ap length e), g.size);
         text = rw (er, eo) (put_put o w (line_of i q) (lines_of (i + 1) q.state (drop (at + 4) b)) (omega arith)) ∙ ap (put o w) (sym e) ∙ g.text;
         left = ap (λ (x : Answered). state_after x.state (drop (at + 4) b)) eq ∙ sym (state_on t b at h) ∙ g.left;
-      }
+      })
 
   -- some bytes are left over
   pub over : (r : ℕ) (o₁ : List ℕ) → at < length b → length b < at + 4 → r ≡ w + length (left_over i) → r ≤ w + longest → o₁ ≡ put o w (left_over i) →
-      Counts r o₁ × (◌≡◌ {A = Playing} (record { played = record { state = t; index = i + 1; wrote = r; refused = false }; out = o₁ }) (all s index b o₀))
+      Counts r o₁ × (◌≡◌ {A = Playing} (record { played = Some (record { index = i + 1; wrote = r }); state = t; out = o₁ }) (all s index b o₀))
   over r o₁ h l er lr eo =
       let e : (lines_of i t (drop at b) ≡ left_over i) × (state_after t (drop at b) ≡ t) = few i t (drop at b) (simp length-drop (omega arith)) (simp length-drop (omega arith)) in
-      let m : w + longest ≤ length o = room_left h in
+      let m : w + longest ≤ length o = room_on h in
       let lo : length o₁ ≡ length o = ap length eo ∙ length_put o w (left_over i) (omega arith) in (
         counts r o₁ (omega arith),
         ended s index b o₀ t (i + 1) r o₁ (sym e.1 ∙ g.left) (omega (arith, g.count)) (er ∙ ap (λ (x : List ℕ). w + length x) (sym e.0) ∙ g.size)
@@ -114,7 +102,7 @@ module _ (index : ℕ) (s : Coordinator) (b o₀ o : List ℕ) (t : Coordinator)
 
   -- none is
   pub done : length b ≤ at →
-      Counts w o × (◌≡◌ {A = Playing} (record { played = record { state = t; index = i; wrote = w; refused = false }; out = o }) (all s index b o₀))
+      Counts w o × (◌≡◌ {A = Playing} (record { played = Some (record { index = i; wrote = w }); state = t; out = o }) (all s index b o₀))
   done h =
       let e : (lines_of i t (drop at b) ≡ []) × (state_after t (drop at b) ≡ t) = none i t b at h in (
         counts w o (omega (arith, g.room, g.count, g.long, g.here)),

@@ -1,27 +1,41 @@
 -- What a number and a line leave in the buffer. Assumes nothing.
-use Prim.Native.Nat.{ℕ, ◌+◌, ◌^◌, ◌≤◌, ◌<◌}
-use mathlib.Core.Path.{◌≡◌, ap, ◌∙◌}
+use Prim.Native.Nat.{ℕ, ◌+◌, ◌-◌, ◌^◌, ◌≤◌, ◌<◌}
+use mathlib.Core.Path.{◌≡◌, refl, sym, ap, ◌∙◌}
 use mathlib.Core.List.{List, [], ◌∷◌, ◌++◌}
 use native.Mathlib.Omega.{arith}
 use lib.ListN.{length, set}
+use lib.Seq.{drop-drop}
+use borrow.Rule.Slice.PartMut.{put_mid}
+use Rattle.std.proofs.Common.{rules}
+use Rattle.std.specs.Fmt.{decimal}
+use Rattle.std.proofs.lemmas.Fmt.{AppendsLastDigit, decimal_from_appends, length-decimal-le}
 use Rattle.layout.specs.Put.{put}
 use Rattle.layout.proofs.Put.{length_put, then_byte, then_text}
 use Rattle.lines.specs.Line.{decimal_in, word, line, longest}
-use Rattle.lines.proofs.Decimal.{length_decimal, decimal_more}
 
-pub word_done : (k n end at : ℕ) (o : List ℕ) (p : ℕ) (o₁ : List ℕ) → 0 < k → k ≤ 20 → n < 10 ^ k → at + k < length o →
-    p ≡ at + length (decimal_in k n) → o₁ ≡ put o at (decimal_in k n) →
-    (p + 1 ≡ at + length (word n end)) × (p + 1 ≤ at + k + 1) × (set o₁ p end ≡ put o at (word n end))
+-- a text in the middle of the buffer, and a byte after it
+pub word_put : (o u t : List ℕ) (at n end : ℕ) → u ≡ t → n ≡ length t → at + n < length o →
+    (at + n + 1 ≡ at + length (t ++ end ∷ [])) × (set (put_mid at (at + n - at) o u) (at + n) end ≡ put o at (t ++ end ∷ []))
+unfolding put
+word_put o u t at n end eu en h =
+    let m : at + n - at ≡ length t = omega (arith, en) in
+    then_byte o at t end (at + n) (put_mid at (at + n - at) o u) (omega (arith, en)) h (rw (eu, m, drop-drop (length t) at o) refl)
+
+-- what std writes is the number in at most 20 digits
+decimal_appends : AppendsLastDigit decimal_in
+unfolding decimal_in
+decimal_appends = search rules
+
+pub word_is : (n end : ℕ) → n < 2 ^ 64 → decimal n ++ end ∷ [] ≡ word n end
 unfolding word
-word_done k n end at o p o₁ h l f r ep eo =
-    let d : length (decimal_in k n) ≤ k = length_decimal k n in
-    let e : decimal_in k n ≡ decimal_in 20 n = decimal_more k 20 n h f l in
-    let w : (p + 1 ≡ at + length (decimal_in k n ++ (end ∷ []))) × (set o₁ p end ≡ put o at (decimal_in k n ++ (end ∷ []))) = then_byte o at (decimal_in k n) end p o₁ ep (omega arith) eo in
-    rw (← e) (w.0, omega arith, w.1)
+word_is n end h = ap (λ (t : List ℕ). t ++ end ∷ []) (sym (decimal_from_appends decimal_in decimal_appends 20 n h (length-decimal-le 20 n (omega arith) (omega arith) h)))
 
 -- t stands at index at of o, up to index r, which is at most n + 1 further
 abbrev Wrote : List ℕ → ℕ → List ℕ → ℕ → ℕ → List ℕ → Type 0
 Wrote o at t n r o₁ = (r ≡ at + length t) × (r ≤ at + n + 1) × (o₁ ≡ put o at t)
+
+pub wrote_word : (o : List ℕ) (at n end k r : ℕ) (o₁ : List ℕ) → n < 2 ^ 64 → Wrote o at (decimal n ++ end ∷ []) k r o₁ → Wrote o at (word n end) k r o₁
+wrote_word o at n end k r o₁ h w = rw (← word_is n end h) w
 
 pub line_done : (i refusal first second at : ℕ) (o : List ℕ) (p₁ p₂ p₃ p₄ : ℕ) (o₁ o₂ o₃ o₄ : List ℕ) → at + longest ≤ length o →
     Wrote o at (word i 32) 20 p₁ o₁ → Wrote o₁ p₁ (word refusal 32) 3 p₂ o₂ → Wrote o₂ p₂ (word first 32) 10 p₃ o₃ → Wrote o₃ p₃ (word second 10) 10 p₄ o₄ →

@@ -3,11 +3,8 @@ use Prim.Native.Nat.{ℕ, ◌/◌, ◌^◌, ◌≤◌, ◌<◌}
 use mathlib.Core.Path.{◌≡◌}
 use mathlib.Core.List.{List}
 use borrow.Author.Tests.{lt-ltb, le-ltb}
-use native.Mathlib.Omega.{arith}
 use lib.ListN.{length}
 use Rattle.coordinator.specs.declared.Coordinator.{Coordinator}
-use Rattle.layout.specs.Put.{Counts}
-use Rattle.layout.proofs.Put.{counts}
 use Rattle.lines.specs.Line.{longest}
 use Rattle.lines.specs.Playing.{all, nothing, playing}
 
@@ -16,14 +13,10 @@ module _ (s : Coordinator) (index : ℕ) (b o : List ℕ) where
   unfolding playing
   played h r = rw (playing, lt-ltb index (2 ^ 63) h, lt-ltb (length b / 4) (length o / longest) r)
 
-  pub no_room : index < 2 ^ 63 → length o / longest ≤ length b / 4 → nothing s index o ≡ playing s index b o
+  pub no_room : index < 2 ^ 63 → length o / longest ≤ length b / 4 → nothing s o ≡ playing s index b o
   unfolding playing
   no_room h r = rw (playing, lt-ltb index (2 ^ 63) h, le-ltb (length b / 4) (length o / longest) r)
 
-  pub no_index : 2 ^ 63 ≤ index → nothing s index o ≡ playing s index b o
+  pub no_index : 2 ^ 63 ≤ index → nothing s o ≡ playing s index b o
   unfolding playing
   no_index h = rw (playing, le-ltb index (2 ^ 63) h)
-
--- no bytes are counted in any buffer
-pub none_counts : (o : List ℕ) → Counts 0 o
-none_counts o = counts 0 o (omega arith)

@@ -1,6 +1,6 @@
 -- What a record answers: three numbers of document 01, and the state left. Assumes nothing: these are definitions.
 use Rattle.std.specs.Prelude.{ℕ}
-use Rattle.std.proofs.Math.Option.{Option, none, some}
+use Rattle.std.specs.Prelude.{Option, None, Some}
 use Rattle.coordinator.specs.declared.Coordinator.{Coordinator}
 use Rattle.coordinator.specs.Call.{Call, open_job, ask_step, confirm_step, close_job, Played, play}
 use Rattle.lines.specs.declared.said.Said.{Said}
@@ -26,5 +26,5 @@ told (close_job t) p = record { state = p.state; refusal = p.values.refusal; fir
 
 -- a call is played; what is no call is refused by 11, and changes nothing
 unfoldable pub answered : Coordinator → Option Call → Answered
-answered s none = record { state = s; refusal = 11; first = 0; second = 0 }
-answered s (some c) = told c (play s c)
+answered s None = record { state = s; refusal = 11; first = 0; second = 0 }
+answered s (Some c) = told c (play s c)

@@ -1,6 +1,5 @@
--- Two bytes of a record as a number: `Record`. An answer as numbers: `Said`. What a record answers: `Answered`. A line of four decimal numbers: `Line`. The lines of many records, and the state they leave: `Lines`.
+-- An answer as numbers: `Said`. What a record answers: `Answered`. A line of four decimal numbers: `Line`. The lines of many records, and the state they leave: `Lines`.
 -- What playing them into a buffer leaves: `Playing`. Records that come in pieces: `Pieces`.
-pub mod Record
 pub mod Said
 pub mod Answered
 pub mod Line

@@ -1,8 +1,7 @@
 -- The lines of many records, and the state they leave. Assumes nothing: these are definitions.
 use Rattle.std.specs.Prelude.{ℕ, ◌+◌, ◌/◌, List, [], ◌∷◌, ◌++◌, length}
 use Rattle.coordinator.specs.declared.Coordinator.{Coordinator}
-use Rattle.record.specs.Record.{call_of}
-use Rattle.lines.specs.Record.{two_bytes}
+use Rattle.record.specs.Record.{call_of, two_bytes}
 use Rattle.lines.specs.Answered.{Answered, answered}
 use Rattle.lines.specs.Line.{line}
 

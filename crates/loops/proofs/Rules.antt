@@ -1,8 +1,7 @@
 -- Rules for the loop and the tests of `Loop`: what a step keeps, the loop keeps.
 -- Assumes nothing.
-use Prim.Native.Nat.{ℕ, zero, suc, ◌+◌, ◌<◌}
+use Prim.Native.Nat.{ℕ, zero, suc, ◌<◌}
 use native.Mathlib.Omega.{arith}
-use native.Mathlib.Numerals.{add-one}
 use native.Mathlib.Nat.{eq-or-lt_of_le, le_of_suc-le-suc, not-suc-le-zero, le_refl}
 use mathlib.Core.Bool.{Bool, true, false}
 use mathlib.Core.Logic.{◌⊎◌, inl, inr}
@@ -49,11 +48,7 @@ unfolding choice
 choice_rule P true f g s h k = h refl
 choice_rule P false f g s h k = k refl
 
--- for a proof of code: one more turn, and the arm that was taken
-pub over_next : {S : Type 0} (k : ℕ) (f : ℕ → S → S) (s : S) → over (k + 1) f s ≡ f k (over k f s)
-unfolding over
-over_next k f s = rw add-one
-
+-- for a proof of code: the arm that was taken
 pub guard_yes : {S : Type 0} (b : Bool) (f : S → S) (s : S) → b ≡ true → guard b f s ≡ f s
 unfolding guard
 guard_yes b f s e = rw e
@@ -61,11 +56,3 @@ guard_yes b f s e = rw e
 pub guard_no : {S : Type 0} (b : Bool) (f : S → S) (s : S) → b ≡ false → guard b f s ≡ s
 unfolding guard
 guard_no b f s e = rw e
-
-pub choice_yes : {S : Type 0} (b : Bool) (f g : S → S) (s : S) → b ≡ true → choice b f g s ≡ f s
-unfolding choice
-choice_yes b f g s e = rw e
-
-pub choice_no : {S : Type 0} (b : Bool) (f g : S → S) (s : S) → b ≡ false → choice b f g s ≡ g s
-unfolding choice
-choice_no b f g s e = rw e

@@ -8,6 +8,8 @@ use native.Mathlib.Nat.{le_antisymm, eq-or-lt_of_le, le_of_suc-le-suc}
 use native.Mathlib.Numerals.{add-one}
 use lib.ListN.{length, take, set, get_or, length-append, get_or-append}
 use lib.Seq.{take-suc, take_all, take-suc-set, get_or_at}
+use Rattle.std.specs.Fn.{Mut, Called}
+use Rattle.std.specs.Array.{IsFromFnResult, IsFromFnResultFrom}
 use Rattle.loops.specs.Table.{table}
 
 pub length_table : {A : Type 0} (n : ℕ) (f : ℕ → A) → length (table n f) ≡ n
@@ -51,3 +53,15 @@ table_filled a f i n h h₂ e = ap (λ (k : ℕ). take k a) (sym (le_antisymm h 
 
 pub table_done : {A : Type 0} (a : List A) (f : ℕ → A) (i n : ℕ) → length a ≡ n → i ≤ n → n ≤ i → take i a ≡ table i f → a ≡ table n f
 table_done a f i n l h h₂ e = sym (take_all i a (omega arith)) ∙ e ∙ ap (λ (k : ℕ). table k f) (le_antisymm h h₂)
+
+-- the list that `array::from_fn` makes, where each call of its closure gives f and changes nothing
+made_at : {A F : Type 0} {g : Mut F (ℕ × Unit {0}) A} (f : ℕ → A) (c : F) (l : List A) (d : A) → ((i : ℕ) (y : A) (q : F) → Called g c (i, tt) y q → (q ≡ c) × (y ≡ f i))
+    → (n i j : ℕ) → IsFromFnResultFrom g c l i n → i ≤ j → j < i + n → get_or l j d ≡ f j
+made_at f c l d each zero i j made h b = absurd (omega arith)
+made_at {g = g} f c l d each (suc n) i j made h b =
+    let here = each i made.1 made.0 made.3 in
+    ⊎_elim (λ e. rw (← e) (made.2.1 d ∙ here.1)) (λ m. made_at f c l d each n (i + 1) j (rw here.0 at made.4) (omega arith) (omega arith)) (eq-or-lt_of_le h)
+
+pub table_made : {A F : Type 0} {g : Mut F (ℕ × Unit {0}) A} (f : ℕ → A) (c : F) (l : List A) (n : ℕ) (d : A) → IsFromFnResult g c l n
+    → ((i : ℕ) (y : A) (q : F) → Called g c (i, tt) y q → (q ≡ c) × (y ≡ f i)) → l ≡ table n f
+table_made f c l n d made each = sym (table_of l d n made.long) ∙ table_same n _ _ (λ i b. made_at f c l d each n 0 i made.each (omega arith) (omega (arith, b)))

@@ -7,7 +7,6 @@ use Prim.Native.Nat.{ℕ, zero, suc, ◌+◌, ◌<◌, ◌≤◌}
 use native.Mathlib.Numerals.{add-one}
 use native.Mathlib.Omega.{arith}
 use Rattle.loops.specs.Loop.{over, every}
-use Rattle.loops.specs.Sum.{sum}
 use Rattle.loops.proofs.Tests.{both, and_left, and_right, and_true, and_false, and_both, same_test}
 
 pub over_none : {A : Type 0} (f : ℕ → A → A) (a : A) → a ≡ over 0 f a
@@ -46,17 +45,8 @@ over_done f a n i h l e = e ∙ ap (λ (k : ℕ). over k f a) (le_antisymm h l)
 pub every_done : (p : ℕ → Bool) (n i : ℕ) {x : Bool} → i ≤ n → n ≤ i → x ≡ every i p → x ≡ every n p
 every_done p n i h l e = e ∙ ap (λ (k : ℕ). every k p) (le_antisymm h l)
 
--- the loop that adds up
-pub sum_none : (g : ℕ → ℕ) → 0 ≡ sum 0 g
-unfolding sum
-sum_none g = refl
-
-pub sum_more : (g : ℕ → ℕ) (i : ℕ) {x y : ℕ} → x ≡ sum i g → y ≡ g i → x + y ≡ sum (i + 1) g
-unfolding sum
-sum_more g i p q = rw (p, q, add-one)
-
-pub sum_done : (g : ℕ → ℕ) (n i : ℕ) {x : ℕ} → i ≤ n → n ≤ i → x ≡ sum i g → x ≡ sum n g
-sum_done g n i h l e = e ∙ ap (λ (k : ℕ). sum k g) (le_antisymm h l)
+-- for the code: a loop's start, a turn and its end
+pub ruleset turns = (over_none, over_more, over_done)
 
 -- what every step keeps, the fold keeps
 pub over_keeps : {A : Type 0} (P : A → Type 0) (n : ℕ) (f : ℕ → A → A) (a : A) → ((k : ℕ) (x : A) → k < n → P x → P (f k x)) → P a → P (over n f a)

@@ -4,12 +4,12 @@ use native.Mathlib.Nat.{div-div-eq-div-mul}
 use Rattle.loops.specs.Sum.{tally}
 use Rattle.loops.proofs.Tests.{both}
 use Rattle.mask.specs.Member.{holds, less, within}
-use Rattle.mask.proofs.Digits.{digit_ext}
+use Rattle.std.proofs.lemmas.Nat.Bits.{same_from_bits_below}
 use Rattle.mask.proofs.Change.{less_lt}
 use Rattle.mask.proofs.Holds.{tally_holds, holds_none, holds_below, holds_less_any}
 
 pub same_members : (n a b : ℕ) → a < 2 ^ n → b < 2 ^ n → ((j : ℕ) → j < n → holds a j ≡ holds b j) → a ≡ b
-same_members n a b ha hb e = digit_ext n a b ha hb (λ k l. sym (tally_holds a k) ∙ ap tally (e k l) ∙ tally_holds b k)
+same_members n a b ha hb e = same_from_bits_below n a b ha hb (λ k l. sym (tally_holds a k) ∙ ap tally (e k l) ∙ tally_holds b k)
 
 pub empty_iff : (n m : ℕ) → m < 2 ^ n → (m ≡ 0) ↔ ((j : ℕ) → holds m j ≡ false)
 empty_iff n m h = (λ e j. rw e (holds_none j), λ e. same_members n m 0 h (pow_pos n) (λ j l. e j ∙ sym (holds_none j)))

@@ -1,5 +1,6 @@
 -- A set gathered from its digits, one a turn. Assumes nothing.
 use Rattle.std.proofs.Common.{◌≡◌, ℕ, zero, suc, ◌+◌, ◌*◌, ◌%◌, ◌^◌, ◌<◌, ◌≤◌, max, Bool, true, false, ◌&&◌, eqb, ◌⊎◌, ◌↔◌, sym, refl, ap, ◌∙◌, inl, inr, le_refl, lt_of_lt_of_le, not-suc-le-zero, mod-eq_of_lt, le_antisymm, one-mul, pow-suc, zero-mul, add-one, arith, pow_pos, pow_mono}
+use mir.Val.{bool_byte}
 use lib.Bits.{bit_or, or_lt, or_zero_r}
 use Rattle.loops.specs.Loop.{over, guard}
 use Rattle.loops.specs.Sum.{tally}
@@ -8,8 +9,8 @@ use Rattle.loops.proofs.Turns.{over_same}
 use Rattle.loops.proofs.Sums.{tally_le}
 use Rattle.mask.specs.Member.{digit, holds}
 use Rattle.mask.specs.Members.{over_members, gather}
-use Rattle.mask.proofs.Digits.{digit_none, digit_or, digit_pow_same, digit_pow_other, high_zero}
-use Rattle.mask.proofs.Holds.{holds_none, holds_beyond}
+use Rattle.std.proofs.lemmas.Nat.Bits.{bit_at-pow_other, bit_at-pow_same, bit_at-zero, bit_at_above, bit_at_or}
+use Rattle.mask.proofs.Holds.{holds_none}
 use Rattle.mask.proofs.Equal.{same_members}
 
 leaf_lt : (d n : ℕ) → d < 2 → d * 2 ^ n < 2 ^ suc n
@@ -25,13 +26,13 @@ pub leaf_is : (w d n : ℕ) → d < 2 → n < w → d * 2 ^ n % 2 ^ w ≡ d * 2 
 leaf_is w d n h l = mod-eq_of_lt (lt_of_lt_of_le (leaf_lt d n h) (pow_mono l))
 
 leaf_same : (d n : ℕ) → d < 2 → digit (d * 2 ^ n) n ≡ d
-leaf_same zero n h = rw (zero-mul (2 ^ n)) (digit_none n)
-leaf_same (suc zero) n h = rw (one-mul (2 ^ n)) (digit_pow_same n)
+leaf_same zero n h = rw (zero-mul (2 ^ n)) (bit_at-zero n)
+leaf_same (suc zero) n h = rw (one-mul (2 ^ n)) (bit_at-pow_same n)
 leaf_same (suc (suc d)) n h = absurd (omega arith)
 
 leaf_other : (d n j : ℕ) → d < 2 → ¬ (j ≡ n) → digit (d * 2 ^ n) j ≡ 0
-leaf_other zero n j h ne = rw (zero-mul (2 ^ n)) (digit_none j)
-leaf_other (suc zero) n j h ne = rw (one-mul (2 ^ n)) (digit_pow_other n j ne)
+leaf_other zero n j h ne = rw (zero-mul (2 ^ n)) (bit_at-zero j)
+leaf_other (suc zero) n j h ne = rw (one-mul (2 ^ n)) (bit_at-pow_other n j ne)
 leaf_other (suc (suc d)) n j h ne = absurd (omega arith)
 
 module _ (d : ℕ → ℕ) (two : (j : ℕ) → d j < 2) where
@@ -43,10 +44,10 @@ module _ (d : ℕ → ℕ) (two : (j : ℕ) → d j < 2) where
   pub gather_digit : (n j : ℕ) → j < n → digit (gather n d) j ≡ d j
   unfolding gather over
   gather_digit zero j l = absurd (not-suc-le-zero l)
-  gather_digit (suc n) j l = digit_or (gather n d) (d n * 2 ^ n) j ∙ by (below_suc l) (λ h. gather_digit n j h)
+  gather_digit (suc n) j l = bit_at_or (gather n d) (d n * 2 ^ n) j ∙ by (below_suc l) (λ h. gather_digit n j h)
     where
       by : (j ≡ n) ⊎ (j < n) → (j < n → digit (gather n d) j ≡ d j) → max (digit (gather n d) j) (digit (d n * 2 ^ n) j) ≡ d j
-      by (inl e) ih = rw e (omega (arith, high_zero n (gather n d) n (gather_lt n) (le_refl n), leaf_same (d n) n (two n)))
+      by (inl e) ih = rw e (omega (arith, bit_at_above (gather n d) n n (gather_lt n) (le_refl n), leaf_same (d n) n (two n)))
       by (inr h) ih = omega (arith, ih h, leaf_other (d n) n j (two n) (λ q. omega arith))
 
 -- a set gathered by a test
@@ -64,9 +65,6 @@ module _ (p : ℕ → Bool) where
       by : (b : Bool) → eqb (tally b) 1 ≡ b
       by true = refl
       by false = refl
-
-  pub holds_gather_beyond : (n j : ℕ) → n ≤ j → holds (gather n (λ j. tally (p j))) j ≡ false
-  holds_gather_beyond n j l = holds_beyond n _ j (gathered_lt n) l
 
   pub gathered_none : (n : ℕ) → (gather n (λ j. tally (p j)) ≡ 0) ↔ ((j : ℕ) → j < n → p j ≡ false)
   gathered_none n = (
@@ -89,6 +87,19 @@ gather_turn d i x y p q = rw (p, q, add-one)
 
 pub gather_done : (d : ℕ → ℕ) (n i x : ℕ) → i ≤ n → n ≤ i → x ≡ gather i d → x ≡ gather n d
 gather_done d n i x a b e = e ∙ ap (λ (k : ℕ). gather k d) (le_antisymm a b)
+
+-- the answer b as the code has it, as the digit x, and put in its place at w digits
+answer_is : (b : Bool) → bool_byte b ≡ tally b
+answer_is true = refl
+answer_is false = refl
+
+pub answer_shl : (w i x : ℕ) (b : Bool) → x ≡ bool_byte b → i < w → x * 2 ^ i % 2 ^ w ≡ tally b * 2 ^ i
+answer_shl w i x b e l = rw (e, answer_is b) (leaf_is w (tally b) i (tally_two b) l)
+
+-- a turn of the code that asks a test
+pub gather_asked : (p : ℕ → Bool) (w i m x : ℕ) (b : Bool) → m ≡ gather i (λ j. tally (p j)) → x ≡ bool_byte b → b ≡ p i → i < w
+    → bit_or m (x * 2 ^ i % 2 ^ w) ≡ gather (i + 1) (λ j. tally (p j))
+gather_asked p w i m x b e q h l = gather_turn (λ j. tally (p j)) i m _ e (answer_shl w i x b q l ∙ rw h)
 
 -- gathered while the members of a set are walked: those of them that pass the test
 pub gather_among : (n m : ℕ) (p : ℕ → Bool) → over_members n m (λ j x. bit_or x (tally (p j) * 2 ^ j)) 0 ≡ gather n (λ j. tally (holds m j && p j))

@@ -6,8 +6,8 @@ use lib.Bits.{bit_and, bit_or}
 use Rattle.loops.specs.Sum.{tally}
 use Rattle.loops.proofs.Tests.{both}
 use Rattle.mask.specs.Member.{digit, holds, including, excluding, joined, less}
-use Rattle.mask.proofs.Digits.{digit_lt, digit_none, digit_or, digit_and, digit_not, digit_pow_same, digit_pow_other, high_zero}
-use Rattle.mask.proofs.Change.{including_same, including_other, excluding_same, excluding_other, joined_below, joined_beyond, less_lt, member_le}
+use Rattle.std.proofs.lemmas.Nat.Bits.{bit_at-lt, bit_at-pow_other, bit_at-pow_same, bit_at-zero, bit_at_above, bit_at_and, bit_at_or}
+use Rattle.mask.proofs.Change.{digit_not, including_same, including_other, excluding_same, excluding_other, joined_below, joined_beyond, less_lt, member_le}
 
 -- members and digits
 
@@ -21,7 +21,7 @@ pub digit_on : (m k : ℕ) → holds m k ≡ true → digit m k ≡ 1
 digit_on m k e = eqb-true (digit m k) 1 e
 
 pub digit_off : (m k : ℕ) → holds m k ≡ false → digit m k ≡ 0
-digit_off m k e = let n : ¬ (digit m k ≡ 1) = eqb-false (digit m k) 1 e in omega (arith, digit_lt m k)
+digit_off m k e = let n : ¬ (digit m k ≡ 1) = eqb-false (digit m k) 1 e in omega (arith, bit_at-lt m k)
 
 -- a digit counts its member
 pub tally_holds : (m k : ℕ) → tally (holds m k) ≡ digit m k
@@ -34,7 +34,7 @@ tally_holds m k = by (holds m k) refl
 -- no member beyond the width
 
 pub holds_beyond : (n m j : ℕ) → m < 2 ^ n → n ≤ j → holds m j ≡ false
-holds_beyond n m j h l = holds_not m j (high_zero n m j h l)
+holds_beyond n m j h l = holds_not m j (bit_at_above m n j h l)
 
 pub holds_below : (n m j : ℕ) → m < 2 ^ n → holds m j ≡ true → j < n
 holds_below n m j h e = elim (dec_lt j n) [
@@ -49,14 +49,14 @@ holds_pos m k e = lt_of_lt_of_le (pow_pos k) (member_le m k (digit_on m k e))
 -- the empty set, one member, a member more, a member less
 
 pub holds_none : (j : ℕ) → holds 0 j ≡ false
-holds_none j = holds_not 0 j (digit_none j)
+holds_none j = holds_not 0 j (bit_at-zero j)
 
 pub holds_one : (k j : ℕ) → holds (2 ^ k) j ≡ eqb j k
 holds_one k j = by (eqb j k) refl
   where
     by : (b : Bool) → eqb j k ≡ b → holds (2 ^ k) j ≡ b
-    by true e = rw (eqb-true j k e) (holds_of (2 ^ k) k (digit_pow_same k))
-    by false e = holds_not (2 ^ k) j (digit_pow_other k j (eqb-false j k e))
+    by true e = rw (eqb-true j k e) (holds_of (2 ^ k) k (bit_at-pow_same k))
+    by false e = holds_not (2 ^ k) j (bit_at-pow_other k j (eqb-false j k e))
 
 pub holds_including : (m k j : ℕ) → holds (including m k) j ≡ eqb j k || holds m j
 holds_including m k j = by (eqb j k) refl
@@ -93,14 +93,14 @@ digits_of P a b c d (suc zero) (suc (suc q)) hp hq = absurd (omega arith)
 
 -- a | b and a & b
 pub holds_or : (a b j : ℕ) → holds (bit_or a b) j ≡ holds a j || holds b j
-holds_or a b j = rw (digit_or a b j) (digits_of (λ p q. eqb (max p q) 1 ≡ eqb p 1 || eqb q 1) refl refl refl refl (digit a j) (digit b j) (digit_lt a j) (digit_lt b j))
+holds_or a b j = rw (bit_at_or a b j) (digits_of (λ p q. eqb (max p q) 1 ≡ eqb p 1 || eqb q 1) refl refl refl refl (digit a j) (digit b j) (bit_at-lt a j) (bit_at-lt b j))
 
 pub holds_and : (a b j : ℕ) → holds (bit_and a b) j ≡ holds a j && holds b j
-holds_and a b j = rw (digit_and a b j) (digits_of (λ p q. eqb (min p q) 1 ≡ eqb p 1 && eqb q 1) refl refl refl refl (digit a j) (digit b j) (digit_lt a j) (digit_lt b j))
+holds_and a b j = rw (bit_at_and a b j) (digits_of (λ p q. eqb (min p q) 1 ≡ eqb p 1 && eqb q 1) refl refl refl refl (digit a j) (digit b j) (bit_at-lt a j) (bit_at-lt b j))
 
 -- !m and all n
 pub holds_complement : (n m j : ℕ) → m < 2 ^ n → j < n → holds (2 ^ n - 1 - m) j ≡ not (holds m j)
-holds_complement n m j h l = rw (digit_not n m j h l) (digits_of (λ p q. eqb (1 - p) 1 ≡ not (eqb p 1)) refl refl refl refl (digit m j) (digit m j) (digit_lt m j) (digit_lt m j))
+holds_complement n m j h l = rw (digit_not n m j h l) (digits_of (λ p q. eqb (1 - p) 1 ≡ not (eqb p 1)) refl refl refl refl (digit m j) (digit m j) (bit_at-lt m j) (bit_at-lt m j))
 
 pub holds_all : (n j : ℕ) → j < n → holds (2 ^ n - 1) j ≡ true
 holds_all n j l =

@@ -2,12 +2,12 @@
 use Rattle.std.proofs.Common.{◌≡◌, ℕ, zero, suc, ◌-◌, ◌*◌, ◌/◌, ◌%◌, ◌^◌, ◌<◌, ◌≤◌, true, false, ◌↔◌, sym, refl, ◌∙◌, le_antisymm, pow-suc, arith, pow_pos}
 use native.Mathlib.Decide.{dec_lt}
 use borrow.Author.Tests.{eqb-false, not-true}
-use lib.Count.{count_trailing_zeros, under, trailing_of_zero, trailing_le}
+use lib.Count.{count_trailing_zeros, under, trailing_le}
 use Rattle.loops.proofs.Tests.{both, and_left, and_right}
 use Rattle.mask.specs.Member.{digit, holds, less, within, lowest}
 use Rattle.mask.specs.Lowest.{Lowest, Free}
-use Rattle.mask.proofs.Digits.{digit_lt, digit_first, digit_suc, digit_not}
-use Rattle.mask.proofs.Change.{less_lt}
+use Rattle.std.proofs.lemmas.Nat.Bits.{bit_at-lt, bit_at-suc, bit_at_lowest}
+use Rattle.mask.proofs.Change.{digit_not, less_lt}
 use Rattle.mask.proofs.Holds.{holds_of, holds_not, holds_pos, holds_all, holds_less_any}
 
 pub trailing_lowest : (n m : ℕ) → 0 < m → m < 2 ^ n → Lowest n m (lowest n m)
@@ -20,12 +20,12 @@ trailing_lowest (suc n) m p h =
     go : (d : ℕ) → m % 2 ≡ d → (0 < m / 2 → Lowest n (m / 2) (count_trailing_zeros n (m / 2))) → Lowest (suc n) m (under d (count_trailing_zeros n (m / 2)))
     go zero e ih =
         let l = ih (omega arith) in
-        record { within = omega arith; on = digit_suc m (count_trailing_zeros n (m / 2)) ∙ l.on; below = λ j h. lower j h l.below }
+        record { within = omega arith; on = bit_at-suc m (count_trailing_zeros n (m / 2)) ∙ l.on; below = λ j h. lower j h l.below }
       where
         lower : (j : ℕ) → j < suc (count_trailing_zeros n (m / 2)) → ((i : ℕ) → i < count_trailing_zeros n (m / 2) → digit (m / 2) i ≡ 0) → digit m j ≡ 0
-        lower zero h all = digit_first m ∙ e
-        lower (suc j) h all = digit_suc m j ∙ all j (omega arith)
-    go (suc d) e ih = record { within = omega arith; on = digit_first m ∙ omega arith; below = λ j h. absurd (omega arith) }
+        lower zero h all = bit_at_lowest m ∙ e
+        lower (suc j) h all = bit_at-suc m j ∙ all j (omega arith)
+    go (suc d) e ih = record { within = omega arith; on = bit_at_lowest m ∙ omega arith; below = λ j h. absurd (omega arith) }
 
 -- the same, said of members
 
@@ -62,9 +62,6 @@ within_not n a b ha hb e =
     let q = sym (holds_less_any n a b j ha hb) ∙ p in
     (j, and_left (holds a j) _ q, not-true (holds b j) (and_right (holds a j) _ q))
 
-pub lowest_none : (n : ℕ) → lowest n 0 ≡ n
-lowest_none n = trailing_of_zero n
-
 pub lowest_at_most : (n m : ℕ) → lowest n m ≤ n
 lowest_at_most n m = trailing_le n m
 
@@ -76,15 +73,12 @@ free_of n m h =
     let t : ℕ = lowest n (2 ^ n - 1 - m) in
     record {
       within = l.within;
-      off = omega (arith, digit_not n m t (omega arith) l.within, l.on, digit_lt m t);
-      below = λ j g. omega (arith, digit_not n m j (omega arith) (omega (arith, l.within)), l.below j g, digit_lt m j);
+      off = omega (arith, digit_not n m t (omega arith) l.within, l.on, bit_at-lt m t);
+      below = λ j g. omega (arith, digit_not n m j (omega arith) (omega (arith, l.within)), l.below j g, bit_at-lt m j);
     }
 
 pub free_holds : {n m w : ℕ} → Free n m w → holds m w ≡ false
 free_holds {n} {m} {w} f = holds_not m w f.off
-
-pub free_below : {n m w : ℕ} → Free n m w → (j : ℕ) → j < w → holds m j ≡ true
-free_below {n} {m} {w} f j h = holds_of m j (f.below j h)
 
 -- below n some number is missing just where m is not full
 pub missing_iff : (n m : ℕ) → m < 2 ^ n → (m < 2 ^ n - 1) ↔ ((j : ℕ) × (j < n) × (holds m j ≡ false))

@@ -8,7 +8,7 @@ use Rattle.loops.proofs.Sums.{sum_first, sum_same, sum_at, sum_le, sum_mono, sum
 use Rattle.loops.proofs.Tests.{or_cases}
 use Rattle.mask.specs.Member.{digit, holds, including, excluding, lowest, size}
 use Rattle.mask.specs.Lowest.{Free}
-use Rattle.mask.proofs.Digits.{digit_first, digit_suc}
+use Rattle.std.proofs.lemmas.Nat.Bits.{bit_at-suc, bit_at_lowest}
 use Rattle.mask.proofs.Holds.{tally_holds, holds_none, holds_all, holds_including, holds_excluding}
 use Rattle.mask.proofs.Equal.{same_members}
 use Rattle.mask.proofs.Lowest.{free_of}
@@ -30,7 +30,7 @@ size_digits : (n m : ℕ) → size n m ≡ sum n (digit m)
 unfolding ones_in sum
 size_digits zero m = refl
 size_digits (suc n) m =
-    ap₂ (λ (x y : ℕ). x + y) (sym (digit_first m)) (size_digits n (m / 2) ∙ sum_same n _ _ (λ k l. sym (digit_suc m k))) ∙ sym (sum_first n (digit m))
+    ap₂ (λ (x y : ℕ). x + y) (sym (bit_at_lowest m)) (size_digits n (m / 2) ∙ sum_same n _ _ (λ k l. sym (bit_at-suc m k))) ∙ sym (sum_first n (digit m))
 
 pub size_sum : (n m : ℕ) → size n m ≡ sum n (λ k. tally (holds m k))
 size_sum n m = size_digits n m ∙ sum_same n _ _ (λ k l. sym (tally_holds m k))

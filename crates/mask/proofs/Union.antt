@@ -1,6 +1,8 @@
 -- A union over an index holds what one of its sets holds, and is empty where all of them are. Assumes nothing.
-use Rattle.std.proofs.Common.{◌≡◌, ℕ, zero, suc, ◌^◌, ◌<◌, Bool, true, false, ◌&&◌, ◌||◌, eqb, ◌⊎◌, ◌↔◌, sym, refl, ap, ◌∙◌, inl, inr, le_refl, not-suc-le-zero, arith, pow_pos, ne_eqb, eqb-true}
+use Rattle.std.proofs.Common.{◌≡◌, ℕ, zero, suc, ◌^◌, ◌<◌, ◌≤◌, List, length, take, fold, get_or, add-one, Bool, true, false, ◌&&◌, ◌||◌, eqb, ◌⊎◌, ◌↔◌, sym, refl, ap, ◌∙◌, inl, inr, le_refl, not-suc-le-zero, arith, pow_pos, ne_eqb, eqb-true}
 use borrow.Author.Tests.{eqb-false}
+use Rattle.std.proofs.lemmas.List.{take_all}
+use Rattle.std.proofs.lemmas.List.Sums.{fold_more}
 use lib.Bits.{bit_or, or_lt, or_add_and, and_le_l, and_comm}
 use Rattle.loops.specs.Loop.{over, every}
 use Rattle.loops.proofs.Rules.{below_suc}
@@ -50,3 +52,12 @@ module _ (f : ℕ → ℕ) where
   unfolding union_of over every
   union_empty zero = refl
   union_empty (suc n) = or_empty (union_of n f) (f n) ∙ ap (λ (b : Bool). b && eqb (f n) 0) (union_empty n)
+
+-- the union of the sets of a list
+fold_take : (l : List ℕ) (n : ℕ) → n ≤ length l → fold bit_or 0 (take n l) ≡ union_of n (λ i. get_or l i 0)
+unfolding union_of over
+fold_take l zero h = refl
+fold_take l (suc n) h = rw (← add-one) (fold_more bit_or 0 l n 0 (omega arith) ∙ ap (λ (m : ℕ). bit_or m (get_or l n 0)) (fold_take l n (omega arith)))
+
+pub fold_union : (l : List ℕ) (n : ℕ) → length l ≡ n → fold bit_or 0 l ≡ union_of n (λ i. get_or l i 0)
+fold_union l n e = ap (fold bit_or 0) (sym (take_all n l (omega (arith, e)))) ∙ fold_take l n (omega (arith, e))

@@ -5,7 +5,7 @@ use Rattle.loops.proofs.Rules.{guard_yes, guard_no, below_suc}
 use Rattle.mask.specs.Member.{digit, holds, excluding, lowest}
 use Rattle.mask.specs.Members.{over_members}
 use Rattle.mask.specs.Lowest.{Lowest}
-use Rattle.mask.proofs.Digits.{digit_none}
+use Rattle.std.proofs.lemmas.Nat.Bits.{bit_at-zero}
 use Rattle.mask.proofs.Change.{excluding_same, excluding_other, member_le}
 use Rattle.mask.proofs.Holds.{holds_of, holds_not, holds_below, digit_on}
 use Rattle.mask.proofs.Equal.{below_iff}
@@ -47,7 +47,7 @@ module _ {S : Type 0} (f : ℕ → S → S) where
 
   pub over_members_none : (n : ℕ) (t : S) → over_members n 0 f t ≡ t
   unfolding over_members
-  over_members_none n t = clear_below 0 n t (λ j l. digit_none j)
+  over_members_none n t = clear_below 0 n t (λ j l. bit_at-zero j)
 
   -- for a loop's invariant: m is left of m₀, and to walk it from t gives what walking m₀ from s gives
 

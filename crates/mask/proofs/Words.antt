@@ -1,33 +1,23 @@
--- The operations as the code has them: at w digits `1 << k` is 1 * 2 ^ k % 2 ^ w, `!x` is 2 ^ w - 1 - x, and m - 1 of 0 may be anything. Assumes nothing.
-use Rattle.std.proofs.Common.{◌≡◌, ℕ, zero, suc, ◌+◌, ◌-◌, ◌*◌, ◌/◌, ◌%◌, ◌^◌, ◌<◌, Bool, true, false, ◌⊎◌, sym, refl, ap, ◌∙◌, inl, inr, mod-eq_of_lt, zero-lt-suc, eq-zero-or-pos, eq-or-lt_of_le, one-mul, pow-suc, zero-mul, add-one, arith, pow_pos}
-use native.Mathlib.Nat.{mod_self}
-use lib.Arith.{lt-one}
+-- The operations as the code has them: at w digits `1 << k` is 1 * 2 ^ k % 2 ^ w and `!x` is 2 ^ w - 1 - x. Assumes nothing.
+use Rattle.std.proofs.Common.{◌≡◌, ℕ, zero, suc, ◌-◌, ◌*◌, ◌/◌, ◌%◌, ◌^◌, ◌<◌, Bool, true, false, sym, refl, ap, ◌∙◌, mod-eq_of_lt, zero-lt-suc, one-mul, pow-suc, zero-mul, arith, pow_pos}
 use lib.Pow.{pow-lt}
-use lib.Bits.{bit_and, bit_or, and_step, and_self, and_le_l, and_zero_l, and_comm}
-use Rattle.mask.specs.Member.{digit, holds, including, excluding, joined, lowest}
+use lib.Bits.{bit_and, bit_or, and_step, and_self, and_comm}
+use Rattle.mask.specs.Member.{digit, holds, including, excluding}
 use Rattle.mask.specs.Lowest.{Lowest}
-use Rattle.mask.proofs.Digits.{digit_first, digit_suc, and_pow}
-use Rattle.mask.proofs.Change.{or_pow, sub_pow, joined_below}
+use Rattle.std.proofs.lemmas.Nat.{and-not}
+use Rattle.std.proofs.lemmas.Nat.Bits.{and_pow, bit_at-suc, bit_at_lowest}
+use Rattle.mask.proofs.Change.{or_pow, sub_pow}
 use Rattle.mask.proofs.Holds.{digit_on, digit_off}
-use Rattle.mask.proofs.Lowest.{trailing_lowest}
 
 -- a & !b, at n digits
 pub and_not : (n a b : ℕ) → a < 2 ^ n → b < 2 ^ n → bit_and a (2 ^ n - 1 - b) ≡ a - bit_and a b
-and_not zero a b ha hb = rw (lt-one ha) refl
-and_not (suc n) a b ha hb =
-    let p : 2 ^ suc n ≡ 2 ^ n * 2 = pow-suc 2 n in
-    let x : ℕ = 2 ^ suc n - 1 - b in
-    let half : bit_and (a / 2) (x / 2) ≡ bit_and (a / 2) (2 ^ n - 1 - b / 2) = ap (bit_and (a / 2)) (omega (arith, pow_pos n)) in
-    omega (arith, half, and_not n (a / 2) (b / 2) (omega arith) (omega arith), and_step a x, and_step a b, and_le_l (a / 2) (b / 2))
+and_not n a b ha hb = omega (arith, and-not n b a hb ha, and_comm a b, and_comm a (2 ^ n - 1 - b))
 
 pub one_shl : (w k : ℕ) → k < w → 1 * 2 ^ k % 2 ^ w ≡ 2 ^ k
 one_shl w k l = ap (λ (x : ℕ). x % 2 ^ w) (one-mul (2 ^ k)) ∙ mod-eq_of_lt (pow-lt l)
 
 pub or_shl : (w m k : ℕ) → k < w → bit_or m (1 * 2 ^ k % 2 ^ w) ≡ including m k
 or_shl w m k l = rw (one_shl w k l) (or_pow m k)
-
-pub joined_shl : (w m k : ℕ) → k < w → bit_or m (1 * 2 ^ k % 2 ^ w) ≡ joined w m k
-joined_shl w m k l = or_shl w m k l ∙ sym (joined_below w m k l)
 
 -- the test `m & 1 << k != 0`
 and_shl : (w m k : ℕ) → k < w → bit_and m (1 * 2 ^ k % 2 ^ w) ≡ digit m k * 2 ^ k
@@ -58,33 +48,16 @@ clear_is m w e = rw e (omega arith)
 
 rest_of : (w m : ℕ) → 0 < m → digit m w ≡ 1 → ((j : ℕ) → j < w → digit m j ≡ 0) → bit_and (m - 1) m ≡ m - 2 ^ w
 rest_of zero m p on below =
-    let d : m % 2 ≡ 1 = sym (digit_first m) ∙ on in
+    let d : m % 2 ≡ 1 = sym (bit_at_lowest m) ∙ on in
     let e : (m - 1) / 2 ≡ m / 2 = omega arith in
     let h : bit_and ((m - 1) / 2) (m / 2) ≡ m / 2 = ap (λ (x : ℕ). bit_and x (m / 2)) e ∙ and_self (m / 2) in
     omega (arith, and_step (m - 1) m)
 rest_of (suc w) m p on below =
-    let d : m % 2 ≡ 0 = sym (digit_first m) ∙ below 0 (zero-lt-suc w) in
+    let d : m % 2 ≡ 0 = sym (bit_at_lowest m) ∙ below 0 (zero-lt-suc w) in
     let q : 2 ^ suc w ≡ 2 ^ w * 2 = pow-suc 2 w in
     let e : (m - 1) / 2 ≡ m / 2 - 1 = omega arith in
     let h : bit_and ((m - 1) / 2) (m / 2) ≡ bit_and (m / 2 - 1) (m / 2) = ap (λ (x : ℕ). bit_and x (m / 2)) e in
-    omega (arith, and_step (m - 1) m, rest_of w (m / 2) (omega arith) (sym (digit_suc m w) ∙ on) (λ j l. sym (digit_suc m j) ∙ below (suc j) (omega arith)))
+    omega (arith, and_step (m - 1) m, rest_of w (m / 2) (omega arith) (sym (bit_at-suc m w) ∙ on) (λ j l. sym (bit_at-suc m j) ∙ below (suc j) (omega arith)))
 
 pub rest_is : (n m w : ℕ) → 0 < m → Lowest n m w → bit_and (m - 1) m ≡ excluding m w
 rest_is n m w p l = rest_of w m p l.on l.below ∙ sym (clear_is m w l.on)
-
--- x is m - 1 where it does not wrap around
-before_of : (p m x : ℕ) → 0 < m → x < p → (x + 1) % p ≡ m → x ≡ m - 1
-before_of p m x h g e = by (eq-or-lt_of_le g)
-  where
-    by : (suc x ≡ p) ⊎ (suc x < p) → x ≡ m - 1
-    by (inl q) = let z : (x + 1) % p ≡ 0 = ap (λ (y : ℕ). y % p) (add-one x ∙ q) ∙ mod_self p in absurd (omega arith)
-    by (inr q) = let z : (x + 1) % p ≡ x + 1 = mod-eq_of_lt (omega arith) in omega arith
-
--- of an empty set x may be anything: it stays empty
-pub rest_wraps : (n m x : ℕ) → m < 2 ^ n → x < 2 ^ n → (x + 1) % 2 ^ n ≡ m → bit_and m x ≡ excluding m (lowest n m)
-unfolding excluding
-rest_wraps n m x h g e = by (eq-zero-or-pos m)
-  where
-    by : (m ≡ 0) ⊎ (0 < m) → bit_and m x ≡ excluding m (lowest n m)
-    by (inl z) = rw (z, and_zero_l x) (omega arith)
-    by (inr p) = and_comm m x ∙ ap (λ (y : ℕ). bit_and y m) (before_of (2 ^ n) m x p g e) ∙ rest_is n m (lowest n m) p (trailing_lowest n m p h)

@@ -1,4 +1,9 @@
 #![tactic(auto)]
-// A set of slots or of databases in one word: number k is a member where bit k is 1. Both kinds have the same functions, and each is told by the definitions of specs/.
-pub mod databases;
-pub mod slots;
+// Sets of slots and of databases, each in one word. What their methods answer is told by the definitions of specs/.
+mod by_test;
+mod members;
+mod set;
+
+pub use by_test::gathered;
+pub use members::Members;
+pub use set::Set;

@@ -1,28 +1,35 @@
 -- Asking for a step keeps the invariant. Assumes nothing.
 use Prim.Native.Nat.{ℕ, ◌<◌}
-use native.Mathlib.Omega.{arith}
 use mathlib.Core.Bool.{Bool, true, false}
-use mathlib.Core.Option.{Option, none, some}
-use mathlib.Core.Path.{◌≡◌, refl, sym, ◌∙◌, subst}
-use borrow.Author.Tests.{eq-eqb, ne_eqb}
-use Rattle.loops.proofs.Tests.{both}
+use Rattle.std.specs.Prelude.{Option, None, Some}
+use mathlib.Core.Path.{◌≡◌, refl, sym, ap, ◌∙◌, subst}
+use borrow.Author.Tests.{eq-eqb}
+use Rattle.loops.proofs.Tests.{both, untrue}
 use Rattle.rings.specs.Change.{releasing}
 use Rattle.rings.specs.Rule.{MayGo, StepWaits}
 use Rattle.rings.proofs.Calls.{ask_held_kept, ask_released_kept}
+use Rattle.refusals.specs.declared.refusal.Refusal.{Refusal}
 use Rattle.coordinator.specs.declared.Coordinator.{Coordinator}
-use Rattle.coordinator.specs.declared.answers.AskAnswer.{AskAnswer}
-use Rattle.coordinator.specs.declared.answers.AfterAsk.{AfterAsk}
 use Rattle.coordinator.specs.Limits.{databases}
 use Rattle.coordinator.specs.Views.{names, asked, released, is_open}
 use Rattle.coordinator.specs.Holder.{holder}
 use Rattle.coordinator.specs.Change.{mark_asked}
 use Rattle.coordinator.specs.Release.{may_go, release}
-use Rattle.coordinator.specs.Refusal.{ask_refusal, step_refusal}
+use Rattle.coordinator.specs.Refusal.{ask_refusal}
 use Rattle.coordinator.specs.Ask.{asked_for, after_ask}
 use Rattle.coordinator.specs.Answer.{ask_values}
 use Rattle.coordinator.specs.Call.{ask_step, play}
+use Rattle.coordinator.specs.declared.answers.After.{After}
+use Rattle.coordinator.specs.declared.answers.Asked.{Asked}
 use Rattle.effects.specs.View.{view}
 use Rattle.effects.specs.Effect.{asked_at, released_at}
+use Rattle.soundness.specs.Changed.{Changed}
+use Rattle.soundness.specs.Refused.{refusal_of}
+use Rattle.soundness.specs.Accepted.{AskAccepted}
+use Rattle.soundness.proofs.Accepted.{ask_accepted}
+use Rattle.soundness.proofs.Arms.{ask_taken, ask_goes, ask_waits}
+use Rattle.soundness.proofs.Marks.{asked_sound}
+use Rattle.soundness.proofs.Release.{released_sound}
 use Rattle.promises.specs.Told.{Told, asked_told, released_told, tell}
 use Rattle.promises.specs.Moment.{Moment, next}
 use Rattle.promises.specs.Tied.{history, Tied}
@@ -31,13 +38,7 @@ use Rattle.promises.proofs.Same.{tied_alike}
 use Rattle.promises.proofs.Marks.{tied_asked}
 use Rattle.promises.proofs.Release.{tied_released}
 use Rattle.promises.proofs.Reading.{holder_means, may_go_job, step_waits_job}
-use Rattle.promises.proofs.Refusals.{numbered}
-use Rattle.soundness.specs.Changed.{Changed}
-use Rattle.soundness.specs.Accepted.{AskAccepted}
-use Rattle.soundness.proofs.Accepted.{ask_accepted}
-use Rattle.soundness.proofs.Arms.{ask_refused, ask_taken, ask_goes, ask_waits}
-use Rattle.soundness.proofs.Marks.{asked_sound}
-use Rattle.soundness.proofs.Release.{released_sound}
+use Rattle.promises.proofs.Refusals.{refused_next}
 
 module _ (m : Moment) (I : Invariant m) (k j : ℕ) (l : k < databases) (o : is_open m.state j ≡ true) (n : names m.state j k ≡ true) (u : asked m.state j k ≡ false) where
   abbrev s : Coordinator
@@ -65,11 +66,7 @@ module _ (m : Moment) (I : Invariant m) (k j : ℕ) (l : k < databases) (o : is_
   job_names = (I.tied.names j k o).0 n
 
   unreleased : released s j k ≡ false
-  unreleased = by (released s j k) refl
-    where
-      by : (b : Bool) → released s j k ≡ b → released s j k ≡ false
-      by true e = both (I.sound.released_asked j k e) u
-      by false e = e
+  unreleased = untrue (released s j k) (λ e. both (I.sound.released_asked j k e) u)
 
   pub held : may_go t j k ≡ false → Invariant (record { told = asked_told T (J j) k; state = t })
   held e = record {
@@ -102,24 +99,15 @@ module _ (m : Moment) (I : Invariant m) (k j : ℕ) (l : k < databases) (o : is_
 
 -- the call, by what the table and the test say
 
-module _ (s : Coordinator) (t k : ℕ) where
-  pub refusal_numbered : (n : ℕ) → ask_refusal s t k ≡ some n → ¬ (n ≡ 0)
-  unfolding ask_refusal step_refusal
-  refusal_numbered n e = numbered _ n (omega arith, (omega arith, (omega arith, (omega arith, (omega arith, tt))))) e
-
 module _ (m : Moment) (I : Invariant m) (t k : ℕ) where
-  abbrev left : AfterAsk → Moment
-  left r = record { told = tell m.told (ask_step t k) (ask_values r.answer); state = r.state }
+  abbrev left : After Asked → Moment
+  left a = record { told = tell m.told (ask_step t k) (ask_values a.answer); state = a.state }
 
   next_is : next m (ask_step t k) ≡ left (after_ask m.state t k)
   unfolding next play
   next_is = refl
 
-  refused : (n : ℕ) → ask_refusal m.state t k ≡ some n → Invariant (left (record { answer = AskAnswer.Refused n; state = m.state }))
-  unfolding tell
-  refused n e = rw (tell, ne_eqb n 0 (refusal_numbered m.state t k n e)) I
-
-  taken : ask_refusal m.state t k ≡ none → Invariant (left (asked_for m.state (holder m.state t) k))
+  taken : ask_refusal m.state t k ≡ None → Invariant (left (asked_for m.state (holder m.state t) k))
   unfolding tell
   taken e = by (may_go (mark_asked m.state j k) j k) refl
     where
@@ -137,17 +125,18 @@ module _ (m : Moment) (I : Invariant m) (t k : ℕ) where
 
       by : (b : Bool) → may_go (mark_asked m.state j k) j k ≡ b → Invariant (left (asked_for m.state j k))
       by true g =
-          subst (λ (r : AfterAsk). Invariant (left r)) (sym (ask_goes m.state j k g))
+          subst (λ (a : After Asked). Invariant (left a)) (sym (ask_goes m.state j k g))
           (subst (λ (a : ℕ). Invariant (record { told = released_told (asked_told m.told a k) a k; state = release (mark_asked m.state j k) j k })) same
           (goes m I k j A.database o A.named A.unasked g))
       by false g =
-          subst (λ (r : AfterAsk). Invariant (left r)) (sym (ask_waits m.state j k g))
+          subst (λ (a : After Asked). Invariant (left a)) (sym (ask_waits m.state j k g))
           (subst (λ (a : ℕ). Invariant (record { told = asked_told m.told a k; state = mark_asked m.state j k })) same
           (held m I k j A.database o A.named A.unasked g))
 
   pub ask_next : Invariant (next m (ask_step t k))
-  ask_next = subst Invariant (sym next_is) (by (ask_refusal m.state t k) refl)
+  unfolding refusal_of
+  ask_next = by (ask_refusal m.state t k) refl
     where
-      by : (r : Option ℕ) → ask_refusal m.state t k ≡ r → Invariant (left (after_ask m.state t k))
-      by none e = subst (λ (r : AfterAsk). Invariant (left r)) (sym (ask_taken m.state t k e)) (taken e)
-      by (some n) e = subst (λ (r : AfterAsk). Invariant (left r)) (sym (ask_refused m.state t k n e)) (refused n e)
+      by : (o : Option Refusal) → ask_refusal m.state t k ≡ o → Invariant (next m (ask_step t k))
+      by None e = subst Invariant (sym (next_is ∙ ap left (ask_taken m.state t k e))) (taken e)
+      by (Some r) e = refused_next m I (ask_step t k) r e

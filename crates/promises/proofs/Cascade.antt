@@ -8,7 +8,7 @@ use borrow.Author.Tests.{eqb-true, eqb-false}
 use lib.Dec.{eqb}
 use lib.ListN.{length, take, length-set}
 use lib.Seq.{take-suc-set}
-use Rattle.loops.proofs.Tests.{and_left, and_right, both}
+use Rattle.loops.proofs.Tests.{and_both, both, untrue}
 use Rattle.rings.specs.Change.{closing as closes}
 use Rattle.rings.specs.History.{History}
 use Rattle.rings.specs.Rule.{AllConfirmed, CloseWaits}
@@ -24,16 +24,17 @@ use Rattle.coordinator.specs.Release.{may_close, may_close_now, first_of}
 use Rattle.coordinator.specs.Close.{Closing, close_one, close_held}
 use Rattle.effects.specs.View.{view}
 use Rattle.effects.specs.Effect.{removed_at}
-use Rattle.effects.proofs.Tests.{may_close_now_lem, may_close_now_small, none_may_close, first_of_lem}
+use Rattle.effects.proofs.Tests.{none_may_close, first_to_close}
+use Rattle.soundness.specs.Changed.{Changed}
+use Rattle.soundness.proofs.Calls.{held_open}
+use Rattle.soundness.proofs.Remove.{removed_sound}
+use Rattle.soundness.proofs.Arms.{cascade_none, cascade_one}
 use Rattle.promises.specs.Told.{Told, closed_told, all_closed_told}
 use Rattle.promises.specs.Promise.{Open}
 use Rattle.promises.specs.Tied.{history, Tied}
 use Rattle.promises.proofs.Same.{tied_alike}
 use Rattle.promises.proofs.Removal.{tied_removed}
 use Rattle.promises.proofs.Reading.{may_close_job, close_waits_job}
-use Rattle.soundness.specs.Changed.{Changed}
-use Rattle.soundness.proofs.Remove.{removed_sound}
-use Rattle.soundness.proofs.Arms.{cascade_none, cascade_one}
 
 -- what has been told when the first of a list of jobs are closed
 abbrev pub closed_so_far : Told → Closing → Told
@@ -58,14 +59,6 @@ pub record Going (T : Told) (c : Closing) : Type 1 where
 -- an open slot is counted
 pub some_open : (s : Coordinator) → Sound s → (i : ℕ) → is_open s i ≡ true → 0 < open_count s
 some_open s X i o = let (p, l, e) = X.ordered.each i o in omega arith
-
--- a held close belongs to an open job, with all its steps confirmed
-pub held_open : (s : Coordinator) → Sound s → (i : ℕ) → held s i ≡ true → is_open s i ≡ true
-held_open s X i h = by (is_open s i) refl
-  where
-    by : (b : Bool) → is_open s i ≡ b → is_open s i ≡ true
-    by true e = e
-    by false e = both h (X.free_zeros i e).not_held
 
 module _ {T : Told} (c : Closing) (I : Going T c) (i : ℕ) (o : is_open c.state i ≡ true) (may : may_close c.state i ≡ true)
     (all : (k : ℕ) → names c.state i k ≡ true → confirmed c.state i k ≡ true) where
@@ -129,11 +122,9 @@ module _ (T : Told) where
       by : (b : Bool) → eqb (may_close_now c.state) 0 ≡ b → ((e : Closing) → Going T e → open_count e.state ≤ left → Ended (close_held left e)) → Ended (close_held (suc left) c)
       by true e go = subst Ended (sym (cascade_none left c e)) (record { going = I; none_left = eqb-true (may_close_now c.state) 0 e })
       by false e go =
-          let (l, m) = first_of_lem c.state (may_close_now c.state) (may_close_now_small c.state) (eqb-false (may_close_now c.state) 0 e) in
-          let p = sym (may_close_now_lem c.state f l) ∙ m in
-          let hold = and_left (held c.state f) (may_close c.state f) p in
-          let o = held_open c.state I.sound f hold in
-          let J = one_closed c I f o (and_right (held c.state f) (may_close c.state f) p) (λ k n. I.sound.held_confirmed f k hold n) in
+          let F = first_to_close c.state (eqb-false (may_close_now c.state) 0 e) in
+          let o = held_open c.state I.sound f F.is_held in
+          let J = one_closed c I f o F.goes (λ k n. I.sound.held_confirmed f k F.is_held n) in
           subst Ended (sym (cascade_one left c e)) (go (close_one c f) J (fewer f o))
 
   -- at the end every held close waits
@@ -144,13 +135,7 @@ module _ (T : Told) where
       I = E.going
 
       stuck : (i : ℕ) → is_open c.state i ≡ true → held c.state i ≡ true → may_close c.state i ≡ false
-      stuck i o h = by (may_close c.state i) refl
-        where
-          by : (b : Bool) → may_close c.state i ≡ b → may_close c.state i ≡ false
-          by true e =
-              let z : held c.state i && may_close c.state i ≡ true = rw (h, e) in
-              both z ((none_may_close c.state).0 E.none_left i (I.tied.inside i o))
-          by false e = e
+      stuck i o h = untrue (may_close c.state i) (λ e. both (and_both h e) ((none_may_close c.state).0 E.none_left i (I.tied.inside i o)))
 
       waits : (a : ℕ) → Open (closed_so_far T c) a → (closed_so_far T c).close_asked a → CloseWaits (history (closed_so_far T c) I.dep) a
       waits a o h =

@@ -2,9 +2,8 @@
 use Prim.Native.Nat.{ℕ}
 use native.Mathlib.Omega.{arith}
 use mathlib.Core.Bool.{Bool, true, false, not, ◌&&◌, ◌||◌}
-use mathlib.Core.Option.{Option, none, some}
+use Rattle.std.specs.Prelude.{Option, None, Some}
 use mathlib.Core.Path.{◌≡◌, refl, sym, ap, ◌∙◌, subst}
-use borrow.Author.Tests.{ne_eqb}
 use lib.Dec.{eqb}
 use lib.ListN.{length-replicate}
 use Rattle.mask.specs.Member.{including, excluding, holds}
@@ -12,21 +11,28 @@ use Rattle.mask.proofs.Holds.{holds_including, holds_excluding}
 use Rattle.mask.proofs.Equal.{equal_members}
 use Rattle.rings.proofs.Marking.{holding_ordered}
 use Rattle.rings.proofs.Calls.{close_held_kept}
+use Rattle.refusals.specs.declared.refusal.Refusal.{Refusal}
 use Rattle.coordinator.specs.declared.Coordinator.{Coordinator}
-use Rattle.coordinator.specs.declared.answers.CloseAnswer.{CloseAnswer}
-use Rattle.coordinator.specs.declared.answers.AfterClose.{AfterClose}
 use Rattle.coordinator.specs.Limits.{jobs}
 use Rattle.coordinator.specs.Views.{is_open, names, confirmed, into, ticket, opened}
 use Rattle.coordinator.specs.Holder.{holder}
 use Rattle.coordinator.specs.Change.{mark_held, removed, place}
 use Rattle.coordinator.specs.Release.{may_close}
-use Rattle.coordinator.specs.Refusal.{close_refusal, job_refusal}
+use Rattle.coordinator.specs.Refusal.{close_refusal}
 use Rattle.coordinator.specs.Close.{Closing, no_tickets, close_one, closing, closed_at, after_close}
 use Rattle.coordinator.specs.Answer.{close_values}
 use Rattle.coordinator.specs.Call.{close_job, play}
+use Rattle.coordinator.specs.declared.answers.After.{After}
+use Rattle.coordinator.specs.declared.answers.Closed.{Closed}
 use Rattle.effects.specs.View.{view}
 use Rattle.effects.specs.Effect.{held_at}
 use Rattle.effects.proofs.Bounds.{count_le}
+use Rattle.soundness.specs.Changed.{Changed}
+use Rattle.soundness.specs.Refused.{refusal_of}
+use Rattle.soundness.specs.Accepted.{CloseAccepted}
+use Rattle.soundness.proofs.Accepted.{close_accepted}
+use Rattle.soundness.proofs.Arms.{close_taken, close_goes, close_waits}
+use Rattle.soundness.proofs.Marks.{held_sound}
 use Rattle.promises.specs.Told.{Told, close_asked_told, tell}
 use Rattle.promises.specs.Moment.{Moment, next}
 use Rattle.promises.specs.Tied.{history, Tied}
@@ -34,13 +40,8 @@ use Rattle.promises.specs.Invariant.{Invariant}
 use Rattle.promises.proofs.Same.{tied_alike}
 use Rattle.promises.proofs.Marks.{tied_held}
 use Rattle.promises.proofs.Reading.{holder_means, close_waits_job}
-use Rattle.promises.proofs.Refusals.{numbered}
+use Rattle.promises.proofs.Refusals.{refused_next}
 use Rattle.promises.proofs.Cascade.{Going, closed_so_far, one_closed, Ended, cascade, closes_wait}
-use Rattle.soundness.specs.Changed.{Changed}
-use Rattle.soundness.specs.Accepted.{CloseAccepted}
-use Rattle.soundness.proofs.Accepted.{close_accepted}
-use Rattle.soundness.proofs.Arms.{close_refused, close_taken, close_goes, close_waits}
-use Rattle.soundness.proofs.Marks.{held_sound}
 
 -- a close held and then carried out leaves what it leaves when it is not held first
 held_no_matter : (m k : ℕ) → excluding (including m k) k ≡ excluding m k
@@ -138,24 +139,15 @@ module _ (m : Moment) (I : Invariant m) (j : ℕ) (o : is_open m.state j ≡ tru
 
 -- the call, by what the table and the test say
 
-module _ (s : Coordinator) (t : ℕ) where
-  pub refusal_numbered : (n : ℕ) → close_refusal s t ≡ some n → ¬ (n ≡ 0)
-  unfolding close_refusal job_refusal
-  refusal_numbered n e = numbered _ n (omega arith, (omega arith, (omega arith, (omega arith, tt)))) e
-
 module _ (m : Moment) (I : Invariant m) (t : ℕ) where
-  abbrev left : AfterClose → Moment
-  left r = record { told = tell m.told (close_job t) (close_values r.answer r.tickets); state = r.state }
+  abbrev left : After (Option Closed) → Moment
+  left a = record { told = tell m.told (close_job t) (close_values a.answer); state = a.state }
 
   next_is : next m (close_job t) ≡ left (after_close m.state t)
   unfolding next play
   next_is = refl
 
-  refused : (n : ℕ) → close_refusal m.state t ≡ some n → Invariant (left (record { answer = CloseAnswer.Refused n; tickets = no_tickets; state = m.state }))
-  unfolding tell
-  refused n e = rw (tell, ne_eqb n 0 (refusal_numbered m.state t n e)) I
-
-  taken : close_refusal m.state t ≡ none → Invariant (left (closed_at m.state (holder m.state t)))
+  taken : close_refusal m.state t ≡ None → Invariant (left (closed_at m.state (holder m.state t)))
   unfolding tell
   taken e = by (may_close m.state j) refl
     where
@@ -176,16 +168,17 @@ module _ (m : Moment) (I : Invariant m) (t : ℕ) where
 
       by : (b : Bool) → may_close m.state j ≡ b → Invariant (left (closed_at m.state j))
       by true g =
-          subst (λ (r : AfterClose). Invariant (left r)) (sym (close_goes m.state j g))
+          subst (λ (a : After (Option Closed)). Invariant (left a)) (sym (close_goes m.state j g))
           (subst (λ (a : ℕ). Invariant (record { told = closed_so_far (close_asked_told m.told a) (closing m.state j); state = (closing m.state j).state })) same
           (goes m I j o all g))
       by false g =
-          subst (λ (r : AfterClose). Invariant (left r)) (sym (close_waits m.state j g))
+          subst (λ (a : After (Option Closed)). Invariant (left a)) (sym (close_waits m.state j g))
           (subst (λ (a : ℕ). Invariant (record { told = close_asked_told m.told a; state = mark_held m.state j })) same (waits m I j o all g))
 
   pub close_next : Invariant (next m (close_job t))
-  close_next = subst Invariant (sym next_is) (by (close_refusal m.state t) refl)
+  unfolding refusal_of
+  close_next = by (close_refusal m.state t) refl
     where
-      by : (r : Option ℕ) → close_refusal m.state t ≡ r → Invariant (left (after_close m.state t))
-      by none e = subst (λ (r : AfterClose). Invariant (left r)) (sym (close_taken m.state t e)) (taken e)
-      by (some n) e = subst (λ (r : AfterClose). Invariant (left r)) (sym (close_refused m.state t n e)) (refused n e)
+      by : (o : Option Refusal) → close_refusal m.state t ≡ o → Invariant (next m (close_job t))
+      by None e = subst Invariant (sym (next_is ∙ ap left (close_taken m.state t e))) (taken e)
+      by (Some r) e = refused_next m I (close_job t) r e

@@ -1,32 +1,39 @@
 -- Confirming a step keeps the invariant. Assumes nothing.
 use Prim.Native.Nat.{ℕ, ◌<◌}
-use native.Mathlib.Omega.{arith}
-use mathlib.Core.Bool.{Bool, true, false, not, ◌&&◌}
-use mathlib.Core.Option.{Option, none, some}
-use mathlib.Core.Path.{◌≡◌, refl, sym, ◌∙◌, subst}
-use borrow.Author.Tests.{eqb-true, eqb-false, ne_eqb, not-true}
+use mathlib.Core.Bool.{Bool, true, false}
+use Rattle.std.specs.Prelude.{Option, None, Some}
+use mathlib.Core.Path.{◌≡◌, refl, sym, ap, ◌∙◌, subst}
+use borrow.Author.Tests.{eqb-true, eqb-false}
 use lib.Dec.{eqb}
-use Rattle.loops.proofs.Tests.{and_left, and_right, both}
+use Rattle.loops.proofs.Tests.{and_both, both, untrue}
 use Rattle.rings.specs.Change.{confirming, releasing}
 use Rattle.rings.specs.Rule.{Pending, MayGo, StepWaits}
 use Rattle.rings.proofs.Calls.{confirm_kept, confirm_released_kept}
+use Rattle.numbers.specs.declared.Ticket.{Ticket}
+use Rattle.refusals.specs.declared.refusal.Refusal.{Refusal}
 use Rattle.coordinator.specs.declared.Coordinator.{Coordinator}
-use Rattle.coordinator.specs.declared.answers.ConfirmAnswer.{ConfirmAnswer}
-use Rattle.coordinator.specs.declared.answers.AfterConfirm.{AfterConfirm}
 use Rattle.coordinator.specs.Limits.{jobs, databases}
 use Rattle.coordinator.specs.Views.{asked, released, is_open}
 use Rattle.coordinator.specs.Holder.{holder}
 use Rattle.coordinator.specs.Change.{mark_confirmed}
 use Rattle.coordinator.specs.Release.{may_go, may_go_at, first_of, release}
-use Rattle.coordinator.specs.Refusal.{confirm_refusal, step_refusal}
+use Rattle.coordinator.specs.Refusal.{confirm_refusal}
 use Rattle.coordinator.specs.Confirm.{released_one, confirmed_at, after_confirm}
 use Rattle.coordinator.specs.Answer.{confirm_values}
 use Rattle.coordinator.specs.Call.{confirm_step, play}
+use Rattle.coordinator.specs.declared.answers.After.{After}
 use Rattle.effects.specs.View.{view}
 use Rattle.effects.specs.Effect.{released_at}
 use Rattle.effects.specs.Effect.{confirmed_at as confirmedView}
 use Rattle.effects.proofs.Bounds.{open_names}
-use Rattle.effects.proofs.Tests.{may_go_at_lem, may_go_at_small, none_may_go, first_of_lem}
+use Rattle.effects.proofs.Tests.{none_may_go, first_to_go}
+use Rattle.soundness.specs.Changed.{Changed}
+use Rattle.soundness.specs.Refused.{refusal_of}
+use Rattle.soundness.specs.Accepted.{ConfirmAccepted}
+use Rattle.soundness.proofs.Accepted.{confirm_accepted}
+use Rattle.soundness.proofs.Arms.{confirm_taken, confirm_none, confirm_one}
+use Rattle.soundness.proofs.Marks.{confirmed_sound}
+use Rattle.soundness.proofs.Release.{released_sound}
 use Rattle.promises.specs.Told.{Told, confirmed_told, released_told, tell}
 use Rattle.promises.specs.Promise.{Released}
 use Rattle.promises.specs.Moment.{Moment, next}
@@ -36,13 +43,7 @@ use Rattle.promises.proofs.Same.{tied_alike}
 use Rattle.promises.proofs.Marks.{tied_confirmed}
 use Rattle.promises.proofs.Release.{tied_released, is_not}
 use Rattle.promises.proofs.Reading.{holder_means, may_go_job, step_waits_job}
-use Rattle.promises.proofs.Refusals.{numbered}
-use Rattle.soundness.specs.Changed.{Changed}
-use Rattle.soundness.specs.Accepted.{ConfirmAccepted}
-use Rattle.soundness.proofs.Accepted.{confirm_accepted}
-use Rattle.soundness.proofs.Arms.{confirm_refused, confirm_taken, confirm_none, confirm_one}
-use Rattle.soundness.proofs.Marks.{confirmed_sound}
-use Rattle.soundness.proofs.Release.{released_sound}
+use Rattle.promises.proofs.Refusals.{refused_next}
 
 module _ (m : Moment) (I : Invariant m) (k j : ℕ) (l : k < databases) (o : is_open m.state j ≡ true) (n : released m.state j k ≡ true) where
   abbrev s : Coordinator
@@ -78,11 +79,7 @@ module _ (m : Moment) (I : Invariant m) (k j : ℕ) (l : k < databases) (o : is_
   }
     where
       stuck : (i : ℕ) → i < jobs → asked t i k ≡ true → released t i k ≡ false → may_go t i k ≡ false
-      stuck i h a r = by (may_go t i k) refl
-        where
-          by : (b : Bool) → may_go t i k ≡ b → may_go t i k ≡ false
-          by true g = let z : asked t i k && not (released t i k) && may_go t i k ≡ true = rw (a, r, g) in both z ((none_may_go t k).0 e i h)
-          by false g = g
+      stuck i h a r = untrue (may_go t i k) (λ g. both (and_both (and_both a (rw r)) g) ((none_may_go t k).0 e i h))
 
       waits : (x : ℕ) → Pending (history T I.dep) x k → StepWaits (confirming (history T I.dep) (J j) k) x k
       waits x (p, a, u) =
@@ -118,24 +115,15 @@ module _ (m : Moment) (I : Invariant m) (k j : ℕ) (l : k < databases) (o : is_
 
 -- the call, by what the table and the test say
 
-module _ (s : Coordinator) (t k : ℕ) where
-  pub refusal_numbered : (n : ℕ) → confirm_refusal s t k ≡ some n → ¬ (n ≡ 0)
-  unfolding confirm_refusal step_refusal
-  refusal_numbered n e = numbered _ n (omega arith, (omega arith, (omega arith, (omega arith, (omega arith, tt))))) e
-
 module _ (m : Moment) (I : Invariant m) (t k : ℕ) where
-  abbrev left : AfterConfirm → Moment
-  left r = record { told = tell m.told (confirm_step t k) (confirm_values r.answer); state = r.state }
+  abbrev left : After (Option Ticket) → Moment
+  left a = record { told = tell m.told (confirm_step t k) (confirm_values a.answer); state = a.state }
 
   next_is : next m (confirm_step t k) ≡ left (after_confirm m.state t k)
   unfolding next play
   next_is = refl
 
-  refused : (n : ℕ) → confirm_refusal m.state t k ≡ some n → Invariant (left (record { answer = ConfirmAnswer.Refused n; state = m.state }))
-  unfolding tell
-  refused n e = rw (tell, ne_eqb n 0 (refusal_numbered m.state t k n e)) I
-
-  taken : confirm_refusal m.state t k ≡ none → Invariant (left (confirmed_at m.state (holder m.state t) k))
+  taken : confirm_refusal m.state t k ≡ None → Invariant (left (confirmed_at m.state (holder m.state t) k))
   unfolding tell released_one
   taken e = by (eqb (may_go_at u k) 0) refl
     where
@@ -159,27 +147,23 @@ module _ (m : Moment) (I : Invariant m) (t k : ℕ) where
 
       goer : ¬ (may_go_at u k ≡ 0) → Invariant (left (released_one u f k))
       goer ne =
-          let (h, g) = first_of_lem u (may_go_at u k) (may_go_at_small u k) ne in
-          let g₁ : asked u f k && not (released u f k) && may_go u f k ≡ true = sym (may_go_at_lem u k f h) ∙ g in
-          let g₂ = and_left (asked u f k && not (released u f k)) (may_go u f k) g₁ in
-          let asks = and_left (asked u f k) (not (released u f k)) g₂ in
-          let free = not-true (released u f k) (and_right (asked u f k) (not (released u f k)) g₂) in
-          let may = and_right (asked u f k && not (released u f k)) (may_go u f k) g₁ in
-          let there = (K m I k j A.database o A.is_released).means f (q m I k j A.database o A.is_released f h asks free may) in
+          let F = first_to_go u k ne in
+          let there = (K m I k j A.database o A.is_released).means f (q m I k j A.database o A.is_released f F.slot F.asks F.unreleased F.goes) in
           subst (λ (a : ℕ). Invariant (record { told = released_told (confirmed_told m.told (m.told.latest t) k) a k; state = release u f k })) (sym there)
           (subst (λ (a : ℕ). Invariant (record { told = released_told (confirmed_told m.told a k) (I.job f) k; state = release u f k })) same
-          (freed m I k j A.database o A.is_released f h asks free may))
+          (freed m I k j A.database o A.is_released f F.slot F.asks F.unreleased F.goes))
 
       by : (b : Bool) → eqb (may_go_at u k) 0 ≡ b → Invariant (left (confirmed_at m.state j k))
       by true g =
-          subst (λ (r : AfterConfirm). Invariant (left r)) (sym (confirm_none m.state j k g))
+          subst (λ (a : After (Option Ticket)). Invariant (left a)) (sym (confirm_none m.state j k g))
           (subst (λ (a : ℕ). Invariant (record { told = confirmed_told m.told a k; state = u })) same
           (nobody m I k j A.database o A.is_released (eqb-true (may_go_at u k) 0 g)))
-      by false g = subst (λ (r : AfterConfirm). Invariant (left r)) (sym (confirm_one m.state j k g)) (goer (eqb-false (may_go_at u k) 0 g))
+      by false g = subst (λ (a : After (Option Ticket)). Invariant (left a)) (sym (confirm_one m.state j k g)) (goer (eqb-false (may_go_at u k) 0 g))
 
   pub confirm_next : Invariant (next m (confirm_step t k))
-  confirm_next = subst Invariant (sym next_is) (by (confirm_refusal m.state t k) refl)
+  unfolding refusal_of
+  confirm_next = by (confirm_refusal m.state t k) refl
     where
-      by : (r : Option ℕ) → confirm_refusal m.state t k ≡ r → Invariant (left (after_confirm m.state t k))
-      by none e = subst (λ (r : AfterConfirm). Invariant (left r)) (sym (confirm_taken m.state t k e)) (taken e)
-      by (some n) e = subst (λ (r : AfterConfirm). Invariant (left r)) (sym (confirm_refused m.state t k n e)) (refused n e)
+      by : (o : Option Refusal) → confirm_refusal m.state t k ≡ o → Invariant (next m (confirm_step t k))
+      by None e = subst Invariant (sym (next_is ∙ ap left (confirm_taken m.state t k e))) (taken e)
+      by (Some r) e = refused_next m I (confirm_step t k) r e

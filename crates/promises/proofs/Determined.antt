@@ -2,18 +2,19 @@
 use Prim.Native.Nat.{ℕ}
 use mathlib.Core.List.{List}
 use mathlib.Core.Path.{◌≡◌, sym, ap, ◌∙◌}
-use Rattle.numbers.specs.declared.maker.Handed.{Handed}
+use Rattle.numbers.specs.declared.Ticket.{Ticket}
+use Rattle.numbers.specs.declared.NumberMaker.{NumberMaker}
 use Rattle.numbers.specs.Ticket.{after, ticket_from}
 use Rattle.promises.specs.Determined.{Determines, Determined}
 
 equation : {A : Type 0} (d : A) → Determines (λ (r : A). r ≡ d)
 equation d x y p q = p ∙ sym q
 
-hand_out : (held : List ℕ) (next : ℕ) → Determines (λ (r : Handed). (r.ticket.0 ≡ ticket_from held next) × (r.maker.next ≡ after r.ticket.0))
-hand_out held next x y (p, q) (r, s) =
-    let t : x.ticket.0 ≡ y.ticket.0 = p ∙ sym r in
-    let n : x.maker.next ≡ y.maker.next = q ∙ ap after t ∙ sym s in
-    λ i. record { ticket = record { 0 = t i }; maker = record { next = n i } }
+take : (held : List ℕ) (next : ℕ) → Determines (λ (r : Ticket × NumberMaker). (r.0.0 ≡ ticket_from held next) × (r.1.next ≡ after r.0.0))
+take held next x y (p, q) (r, s) =
+    let t : x.0.0 ≡ y.0.0 = p ∙ sym r in
+    let n : x.1.next ≡ y.1.next = q ∙ ap after t ∙ sym s in
+    λ i. (record { 0 = t i }, record { next = n i })
 
 pub determined : Determined
 determined = record {
@@ -30,15 +31,17 @@ determined = record {
   most_moves = λ s. equation _;
   open_slots = λ named. equation _;
   holders_of = λ tickets named t. equation _;
-  all_sound = λ tickets held order named asked released confirmed dependencies. equation _;
+  are_sound = λ tickets held order named asked released confirmed dependencies. equation _;
   of_open = λ sound mask slots. equation _;
-  of_step = λ sound found k names applies number. equation _;
+  of_step = λ sound found k names applies own. equation _;
   of_close = λ sound found confirmed held. equation _;
+  refusal_number = λ refusal. equation _;
+  count_all = λ sets. equation _;
   search = λ named dependencies n. equation _;
   absent = λ held t. equation _;
   next_number = λ t. equation _;
   free_from = λ held from. equation _;
-  hand_out = hand_out;
+  take = take;
   member = λ m k. equation _;
   with_member = λ n m k. equation _;
   without_member = λ m k. equation _;
@@ -46,4 +49,8 @@ determined = record {
   rest_of = λ n m. equation _;
   size_of = λ n m. equation _;
   less_of = λ n a b. equation _;
+  word_of = λ m. equation _;
+  of_word = λ n w. equation _;
+  members_of = λ m. equation _;
+  gathered = λ p. equation _;
 }

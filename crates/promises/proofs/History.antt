@@ -8,6 +8,7 @@ use Rattle.rings.proofs.Calls.{fresh_kept}
 use Rattle.coordinator.specs.Call.{Call, open_job, ask_step, confirm_step, close_job}
 use Rattle.effects.specs.Effect.{nothing_open}
 use Rattle.effects.proofs.Fresh.{fresh_view}
+use Rattle.soundness.proofs.Fresh.{fresh_sound}
 use Rattle.promises.specs.Told.{nothing}
 use Rattle.promises.specs.Moment.{Moment, Fits, AllFit, begin, next, after}
 use Rattle.promises.specs.Tied.{Tied}
@@ -17,7 +18,6 @@ use Rattle.promises.proofs.Opening.{open_next}
 use Rattle.promises.proofs.Asking.{ask_next}
 use Rattle.promises.proofs.Confirming.{confirm_next}
 use Rattle.promises.proofs.Closing.{close_next}
-use Rattle.soundness.proofs.Fresh.{fresh_sound}
 
 -- nothing is open, so nothing has to be tied
 nothing_tied : (n : ℕ) → Tied nothing (λ k a b. ⊥) (λ i. 0) (nothing_open n)

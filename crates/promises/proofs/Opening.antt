@@ -1,30 +1,37 @@
 -- Opening a job keeps the invariant. Assumes nothing.
 use Prim.Native.Nat.{ℕ, ◌^◌, ◌<◌}
-use native.Mathlib.Omega.{arith}
 use native.Mathlib.Nat.{lt_irrefl}
 use mathlib.Core.Bool.{Bool, true, false}
 use mathlib.Core.Logic.{◌↔◌}
-use mathlib.Core.Option.{Option, none, some}
-use mathlib.Core.Path.{◌≡◌, refl, sym, subst}
-use borrow.Author.Tests.{ne_eqb}
+use Rattle.std.specs.Prelude.{Option, None, Some}
+use mathlib.Core.Path.{◌≡◌, refl, sym, ap, subst, ◌∙◌}
+use Rattle.loops.proofs.Tests.{untrue}
 use Rattle.mask.specs.Member.{holds}
-use Rattle.numbers.specs.Ticket.{after}
 use Rattle.rings.specs.Change.{opening}
 use Rattle.rings.proofs.Calls.{open_kept}
+use Rattle.numbers.specs.Ticket.{after}
+use Rattle.refusals.specs.declared.refusal.Refusal.{Refusal}
 use Rattle.coordinator.specs.declared.Coordinator.{Coordinator}
-use Rattle.coordinator.specs.declared.answers.OpenAnswer.{OpenAnswer}
-use Rattle.coordinator.specs.declared.answers.AfterOpen.{AfterOpen}
 use Rattle.coordinator.specs.Limits.{jobs}
 use Rattle.coordinator.specs.Shape.{Shape}
 use Rattle.coordinator.specs.Sound.{Sound}
 use Rattle.coordinator.specs.Views.{entry, is_open, open_count}
-use Rattle.coordinator.specs.Refusal.{open_refusal, slot_refusal}
+use Rattle.coordinator.specs.Refusal.{open_refusal}
 use Rattle.coordinator.specs.Open.{free_slot, ticket_for, entered, searched, with_found, accepted, after_open}
 use Rattle.coordinator.specs.Answer.{open_values}
 use Rattle.coordinator.specs.Call.{open_job, play}
+use Rattle.coordinator.specs.declared.answers.After.{After}
+use Rattle.coordinator.specs.declared.answers.Opened.{Opened}
 use Rattle.effects.specs.View.{view}
 use Rattle.effects.specs.Effect.{entered_at, found_at}
 use Rattle.effects.proofs.Holder.{free_slot_lem}
+use Rattle.soundness.specs.Changed.{Changed}
+use Rattle.soundness.specs.Refused.{refusal_of}
+use Rattle.soundness.proofs.Free.{free_names, free_asked, free_released, free_confirmed, free_held, free_from_lem, free_into}
+use Rattle.soundness.proofs.GivenOut.{ticket_unheld}
+use Rattle.soundness.proofs.Open.{opened_sound}
+use Rattle.soundness.proofs.Accepted.{open_accepted}
+use Rattle.soundness.proofs.Arms.{open_taken}
 use Rattle.promises.specs.Told.{opened_told, tell}
 use Rattle.promises.specs.Moment.{Moment, next}
 use Rattle.promises.specs.Tied.{history}
@@ -32,13 +39,7 @@ use Rattle.promises.specs.Invariant.{Invariant}
 use Rattle.promises.proofs.Same.{tied_alike}
 use Rattle.promises.proofs.Entry.{FreeAt, seated, tied_opened}
 use Rattle.promises.proofs.Searching.{Found, found_all, found_facts}
-use Rattle.promises.proofs.Refusals.{numbered}
-use Rattle.soundness.specs.Changed.{Changed}
-use Rattle.soundness.proofs.Free.{free_names, free_asked, free_released, free_confirmed, free_held, free_from_lem, free_into}
-use Rattle.soundness.proofs.GivenOut.{ticket_unheld}
-use Rattle.soundness.proofs.Open.{opened_sound}
-use Rattle.soundness.proofs.Accepted.{open_accepted}
-use Rattle.soundness.proofs.Arms.{open_refused, open_taken}
+use Rattle.promises.proofs.Refusals.{refused_next}
 
 -- a free slot shows nothing of a job
 free_at : (s : Coordinator) → Shape s → Sound s → (n : ℕ) → n < jobs → is_open s n ≡ false → FreeAt (view s) n
@@ -84,12 +85,8 @@ module _ (m : Moment) (I : Invariant m) (mask : ℕ) (fits : mask < 2 ^ 16) (som
   found_iff i u o = (λ h. (i, o, refl, h), λ (j, p, x, h). subst (λ (y : ℕ). f y u ≡ true) (I.tied.apart j i p o x) h)
 
   unfound : (u : ℕ) → f n u ≡ false
-  unfound u = by (f n u) refl
-    where
-      by : (b : Bool) → f n u ≡ b → f n u ≡ false
-      by true h =
-          absurd ((found_facts I.tied I.kept.ordered.formed I.kept.ordered.depends n mask t (after t) Z unheld e C.0.shape C.0.shows n u h).other refl)
-      by false h = h
+  unfound u =
+      untrue (f n u) (λ h. (found_facts I.tied I.kept.ordered.formed I.kept.ordered.depends n mask t (after t) Z unheld e C.0.shape C.0.shows n u h).other refl)
 
   found_old : (u : ℕ) → ¬ Found I.job (view s) f m.told.count u
   found_old u (i, o, x, h) = lt_irrefl m.told.count (subst (λ (y : ℕ). y < m.told.count) x (I.tied.sits i o).0)
@@ -108,30 +105,22 @@ module _ (m : Moment) (I : Invariant m) (mask : ℕ) (fits : mask < 2 ^ 16) (som
 
 -- the call, by what the table says
 
-module _ (s : Coordinator) (mask : ℕ) where
-  pub refusal_numbered : (n : ℕ) → open_refusal s mask ≡ some n → ¬ (n ≡ 0)
-  unfolding open_refusal slot_refusal
-  refusal_numbered n e = numbered _ n (omega arith, (omega arith, (omega arith, tt))) e
-
 module _ (m : Moment) (I : Invariant m) (mask : ℕ) (fits : mask < 2 ^ 16) where
-  abbrev left : AfterOpen → Moment
-  left r = record { told = tell m.told (open_job mask) (open_values r.answer); state = r.state }
+  abbrev left : After Opened → Moment
+  left a = record { told = tell m.told (open_job mask) (open_values a.answer); state = a.state }
 
   next_is : next m (open_job mask) ≡ left (after_open m.state mask)
   unfolding next play
   next_is = refl
 
-  refused : (n : ℕ) → open_refusal m.state mask ≡ some n → Invariant (left (record { answer = OpenAnswer.Refused n; state = m.state }))
-  unfolding tell
-  refused n e = rw (tell, ne_eqb n 0 (refusal_numbered m.state mask n e)) I
-
-  taken : open_refusal m.state mask ≡ none → Invariant (left (accepted m.state (free_slot m.state) mask))
+  taken : open_refusal m.state mask ≡ None → Invariant (left (accepted m.state (free_slot m.state) mask))
   unfolding tell accepted
   taken r = let A = open_accepted m.state I.shape mask r in opens m I mask fits A.some A.room
 
   pub open_next : Invariant (next m (open_job mask))
-  open_next = subst Invariant (sym next_is) (by (open_refusal m.state mask) refl)
+  unfolding refusal_of
+  open_next = by (open_refusal m.state mask) refl
     where
-      by : (r : Option ℕ) → open_refusal m.state mask ≡ r → Invariant (left (after_open m.state mask))
-      by none e = subst (λ (r : AfterOpen). Invariant (left r)) (sym (open_taken m.state mask e)) (taken e)
-      by (some n) e = subst (λ (r : AfterOpen). Invariant (left r)) (sym (open_refused m.state mask n e)) (refused n e)
+      by : (o : Option Refusal) → open_refusal m.state mask ≡ o → Invariant (next m (open_job mask))
+      by None e = subst Invariant (sym (next_is ∙ ap left (open_taken m.state mask e))) (taken e)
+      by (Some r) e = refused_next m I (open_job mask) r e

@@ -1,31 +1,30 @@
 -- The release of a confirm holds the others. Assumes nothing.
 use Prim.Native.Nat.{ℕ}
 use native.Mathlib.Omega.{arith}
-use mathlib.Core.Bool.{Bool, true, false, not, ◌&&◌}
-use mathlib.Core.Option.{none}
-use mathlib.Core.Path.{◌≡◌, refl, sym, ◌∙◌, subst}
-use borrow.Author.Tests.{eqb-false, not-true}
+use mathlib.Core.Bool.{Bool, true, false}
+use Rattle.std.specs.Prelude.{Option, None}
+use mathlib.Core.Path.{◌≡◌, refl, sym, subst}
+use borrow.Author.Tests.{eqb-false}
 use lib.Dec.{eqb}
-use Rattle.loops.proofs.Tests.{and_left, and_right}
+use Rattle.numbers.specs.declared.Ticket.{Ticket}
 use Rattle.coordinator.specs.declared.Coordinator.{Coordinator}
-use Rattle.coordinator.specs.declared.answers.AfterConfirm.{AfterConfirm}
 use Rattle.coordinator.specs.Shape.{Shape}
 use Rattle.coordinator.specs.Sound.{Sound}
-use Rattle.coordinator.specs.Views.{asked, released}
 use Rattle.coordinator.specs.Holder.{holder}
 use Rattle.coordinator.specs.Change.{mark_confirmed}
-use Rattle.coordinator.specs.Release.{may_go, may_go_at, first_of}
+use Rattle.coordinator.specs.Release.{may_go_at, first_of}
 use Rattle.coordinator.specs.Refusal.{confirm_refusal}
 use Rattle.coordinator.specs.Confirm.{released_one, confirmed_at}
 use Rattle.coordinator.specs.Answer.{confirm_values}
 use Rattle.coordinator.specs.Call.{confirm_step, Played, play}
-use Rattle.effects.proofs.Tests.{may_go_at_lem, may_go_at_small, first_of_lem}
+use Rattle.coordinator.specs.declared.answers.After.{After}
+use Rattle.effects.proofs.Tests.{first_to_go}
 use Rattle.soundness.proofs.Marks.{confirmed_sound}
 use Rattle.soundness.proofs.Accepted.{confirm_accepted}
 use Rattle.soundness.proofs.Arms.{confirm_taken, confirm_none, confirm_one}
 use Rattle.soundness.proofs.Holds.{release_holds}
 
-module _ (s : Coordinator) (t k : ℕ) (S : Shape s) (X : Sound s) (e : confirm_refusal s t k ≡ none) where
+module _ (s : Coordinator) (t k : ℕ) (S : Shape s) (X : Sound s) (e : confirm_refusal s t k ≡ None) where
   abbrev j : ℕ
   j = holder s t
 
@@ -35,7 +34,7 @@ module _ (s : Coordinator) (t k : ℕ) (S : Shape s) (X : Sound s) (e : confirm_
   abbrev f : ℕ
   f = first_of c (may_go_at c k)
 
-  abbrev left : AfterConfirm → Played
+  abbrev left : After (Option Ticket) → Played
   left r = record { values = confirm_values r.answer; state = r.state }
 
   abbrev pub Settled : Played → Type 0
@@ -46,15 +45,13 @@ module _ (s : Coordinator) (t k : ℕ) (S : Shape s) (X : Sound s) (e : confirm_
   one ne r =
       let A = confirm_accepted s t k e in
       let C = confirmed_sound s S X j k A.holder_of.slot A.database A.is_released in
-      let (h, g) = first_of_lem c (may_go_at c k) (may_go_at_small c k) ne in
-      let g₁ = and_left (asked c f k && not (released c f k)) (may_go c f k) (sym (may_go_at_lem c k f h) ∙ g) in
-      release_holds c C.shape C.sound f k h A.database (and_left (asked c f k) (not (released c f k)) g₁)
-      (not-true (released c f k) (and_right (asked c f k) (not (released c f k)) g₁))
+      let F = first_to_go c k ne in
+      release_holds c C.shape C.sound f k F.slot A.database F.asks F.unreleased
 
   by_arm : (b : Bool) → eqb (may_go_at c k) 0 ≡ b → Settled (left (confirmed_at s j k))
-  by_arm true g = subst (λ (r : AfterConfirm). Settled (left r)) (sym (confirm_none s j k g)) (λ r. absurd (omega arith))
-  by_arm false g = subst (λ (r : AfterConfirm). Settled (left r)) (sym (confirm_one s j k g)) (one (eqb-false (may_go_at c k) 0 g))
+  by_arm true g = subst (λ (a : After (Option Ticket)). Settled (left a)) (sym (confirm_none s j k g)) (λ r. absurd (omega arith))
+  by_arm false g = subst (λ (a : After (Option Ticket)). Settled (left a)) (sym (confirm_one s j k g)) (one (eqb-false (may_go_at c k) 0 g))
 
   pub holds_others : Settled (play s (confirm_step t k))
   unfolding play
-  holds_others = subst (λ (r : AfterConfirm). Settled (left r)) (sym (confirm_taken s t k e)) (by_arm (eqb (may_go_at c k) 0) refl)
+  holds_others = subst (λ (a : After (Option Ticket)). Settled (left a)) (sym (confirm_taken s t k e)) (by_arm (eqb (may_go_at c k) 0) refl)

@@ -10,13 +10,13 @@ use Rattle.coordinator.specs.Sound.{Sound}
 use Rattle.coordinator.specs.Test.{sound}
 use Rattle.coordinator.specs.Call.{Call, open_job, ask_step, confirm_step, close_job}
 use Rattle.effects.proofs.Fresh.{fresh_view}
+use Rattle.decision.proofs.Decides.{sound_iff}
 use Rattle.soundness.specs.Kept.{MaskFits}
 use Rattle.soundness.proofs.Accepted.{open_accepted, confirm_accepted, close_accepted}
 use Rattle.soundness.proofs.Calls.{play_sound}
 use Rattle.soundness.proofs.Every.{test_stays}
 use Rattle.soundness.proofs.Fresh.{fresh_sound}
 use Rattle.soundness.proofs.Room.{closed_went, room_after_close}
-use Rattle.decision.proofs.Decides.{sound_iff}
 use Rattle.promises.specs.Moment.{Fits, AllFit, begin, after}
 use Rattle.promises.specs.Tied.{history}
 use Rattle.promises.specs.Everywhere.{Soundness, Calls}
@@ -51,7 +51,7 @@ calls : Calls
 calls = record {
   opening = λ s mask S fits e. opened s mask S (tested s S (open_accepted s S mask e).tested) fits e;
   holds_others = λ s t k S e. holds_others s t k S (tested s S (confirm_accepted s t k e).tested) e;
-  room_again = λ s t n mask S e. room_after_close s S (tested s S (close_accepted s S t (closed_went s t n e).0).tested) t n mask e;
+  room_again = λ s t mask c S e. room_after_close s S (tested s S (close_accepted s S t (closed_went s t c e).0).tested) t mask c e;
 }
 
 after_all : (n : ℕ) → n < 2 ^ 16 → (calls : List Call) → AllFit calls → AfterAll n calls

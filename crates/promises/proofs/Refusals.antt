@@ -1,21 +1,48 @@
--- No refusal has number 0. Assumes nothing.
+-- What the number of a refusal tells, and what a refused call leaves of a history. Assumes nothing.
 use Prim.Native.Nat.{ℕ}
-use native.Mathlib.Omega.{arith}
-use mathlib.Core.Bool.{Bool, true, false}
-use mathlib.Core.List.{List, [], ◌∷◌}
-use mathlib.Core.Option.{Option, some}
-use mathlib.Core.Path.{◌≡◌}
-use Rattle.coordinator.specs.Refusal.{Row, first_row}
+use mathlib.Core.List.{[], ◌∷◌}
+use mathlib.Core.Path.{◌≡◌, refl, sym, ap, ◌∙◌, subst}
+use Rattle.std.specs.Prelude.{Option, None, Some, get_or}
+use borrow.Author.Tests.{ne_eqb}
+use Rattle.refusals.specs.declared.refusal.Refusal.{Refusal}
+use Rattle.refusals.specs.declared.refusal.Refusal.TheVariants.{NamesNone, Full, NoJob, NoDatabase, NotNamed, AskedBefore, Settled, Unfinished, CloseHeld, Unsound}
+use Rattle.refusals.specs.Number.{number}
+use Rattle.coordinator.specs.Call.{Call, Played}
+use Rattle.soundness.specs.Refused.{refusal_of}
+use Rattle.soundness.proofs.Refused.{refused_play}
+use Rattle.promises.specs.Told.{tell}
+use Rattle.promises.specs.Moment.{Moment, next}
+use Rattle.promises.specs.Invariant.{Invariant}
 
-abbrev pub Numbered : List Row → Type 0
-Numbered [] = Unit {0}
-Numbered (r ∷ rows) = ¬ (r.number ≡ 0) × Numbered rows
+-- the refusal that has a number
+abbrev refusal_numbered : ℕ → Option Refusal
+refusal_numbered n =
+    get_or
+    (None ∷ Some NamesNone ∷ Some Full ∷ Some NoJob ∷ Some NoDatabase ∷ Some NotNamed ∷ Some AskedBefore ∷ Some Settled ∷ Some Unfinished ∷ Some CloseHeld ∷ Some Unsound ∷ [])
+    n None
 
-pub numbered : (rows : List Row) (n : ℕ) → Numbered rows → first_row rows ≡ some n → ¬ (n ≡ 0)
-unfolding first_row
-numbered [] n h e = let z : ◌≡◌ {A = ℕ} 0 1 = cc in absurd (omega arith)
-numbered (r ∷ rows) n h e = by r.applies e (numbered rows n h.1)
-  where
-    by : (b : Bool) → ◌≡◌ {A = Option ℕ} (elim b [ true ↦ some r.number | false ↦ first_row rows ]) (some n) → (first_row rows ≡ some n → ¬ (n ≡ 0)) → ¬ (n ≡ 0)
-    by true e ih = λ z. h.0 (let q : r.number ≡ n = cc in omega arith)
-    by false e ih = ih e
+number_back : (r : Refusal) → refusal_numbered (number r) ≡ Some r
+number_back NamesNone = refl
+number_back Full = refl
+number_back NoJob = refl
+number_back NoDatabase = refl
+number_back NotNamed = refl
+number_back AskedBefore = refl
+number_back Settled = refl
+number_back Unfinished = refl
+number_back CloseHeld = refl
+number_back Unsound = refl
+
+-- a refusal's number is not 0, and no two refusals have the same
+pub not_zero : (r : Refusal) → ¬ (number r ≡ 0)
+not_zero r e = let p : ◌≡◌ {A = Option Refusal} (Some r) None = sym (number_back r) ∙ ap refusal_numbered e in absurd (cc)
+
+pub told_apart : (q r : Refusal) → number q ≡ number r → q ≡ r
+told_apart q r e = let p : ◌≡◌ {A = Option Refusal} (Some q) (Some r) = sym (number_back q) ∙ ap refusal_numbered e ∙ number_back r in cc
+
+-- a refused call tells nothing and leaves the state as it was
+pub refused_next : (m : Moment) → Invariant m → (c : Call) (r : Refusal) → refusal_of m.state c ≡ Some r → Invariant (next m c)
+unfolding next tell
+refused_next m I c r e =
+    subst (λ (p : Played). Invariant (record { told = tell m.told c p.values; state = p.state })) (sym (refused_play m.state c r e))
+    (rw (tell, ne_eqb (number r) 0 (not_zero r)) I)

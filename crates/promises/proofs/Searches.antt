@@ -3,7 +3,7 @@ use Prim.Native.Nat.{ℕ, ◌+◌, ◌*◌, ◌^◌, ◌<◌, ◌≤◌}
 use mathlib.Core.Bool.{Bool, true, ◌&&◌, ◌||◌}
 use mathlib.Core.Logic.{◌↔◌, ◌⊎◌, inl, inr}
 use mathlib.Core.List.{[]}
-use mathlib.Core.Option.{none}
+use Rattle.std.specs.Prelude.{None}
 use mathlib.Core.Path.{◌≡◌, refl, sym, ap, ◌∙◌, subst}
 use borrow.Author.Tests.{eqb-true, eq-eqb}
 use lib.Dec.{eqb}
@@ -15,19 +15,19 @@ use Rattle.walks.specs.Rows.{rows}
 use Rattle.walks.specs.Search.{Seek}
 use Rattle.walks.specs.Machine.{machine}
 use Rattle.walks.proofs.Opening.{found_iff, added_is, opening_machine, moves_are, moves_most, moves_limit}
+use Rattle.numbers.specs.Ticket.{after}
 use Rattle.coordinator.specs.declared.Coordinator.{Coordinator}
-use Rattle.coordinator.specs.declared.answers.AfterOpen.{AfterOpen}
 use Rattle.coordinator.specs.Limits.{jobs, databases}
 use Rattle.coordinator.specs.Views.{entry, dep}
 use Rattle.coordinator.specs.Shape.{Shape}
 use Rattle.coordinator.specs.Sound.{Sound}
 use Rattle.coordinator.specs.Refusal.{open_refusal}
 use Rattle.coordinator.specs.Bound.{most_moves}
-use Rattle.numbers.specs.Ticket.{after}
 use Rattle.coordinator.specs.Change.{with_dependencies, taken}
 use Rattle.coordinator.specs.Open.{free_slot, ticket_for, entered, graph, searched, with_found, added, accepted}
 use Rattle.coordinator.specs.Answer.{open_values}
 use Rattle.coordinator.specs.Call.{open_job, Played, play}
+use Rattle.coordinator.specs.declared.answers.After.{After}
 use Rattle.effects.proofs.Holder.{free_slot_lem}
 use Rattle.soundness.specs.GivenOut.{GivenOut}
 use Rattle.soundness.proofs.GivenOut.{ticket_given}
@@ -38,7 +38,7 @@ use Rattle.soundness.proofs.Free.{free_names}
 use Rattle.promises.specs.Everywhere.{Opened}
 use Rattle.promises.proofs.Foreseen.{foreseen}
 
-module _ (s : Coordinator) (mask : ℕ) (S : Shape s) (X : Sound s) (fits : mask < 2 ^ 16) (e : open_refusal s mask ≡ none) where
+module _ (s : Coordinator) (mask : ℕ) (S : Shape s) (X : Sound s) (fits : mask < 2 ^ 16) (e : open_refusal s mask ≡ None) where
   abbrev n : ℕ
   n = free_slot s
 
@@ -51,7 +51,7 @@ module _ (s : Coordinator) (mask : ℕ) (S : Shape s) (X : Sound s) (fits : mask
   played : play s (open_job mask)
       ≡ record { values = record { refusal = 0; ticket = ticket_for s; added = added sought.found; moves = sought.moves; released = 0; closed = 0; tickets = [] }; state = with_found u n sought.found }
   unfolding play accepted
-  played = ap (λ (r : AfterOpen). record { values = open_values r.answer; state = r.state }) (open_taken s mask e)
+  played = ap (λ (a : After _). record { values = open_values a.answer; state = a.state }) (open_taken s mask e)
 
   inside : n < jobs
   inside = (free_slot_lem s S (open_accepted s S mask e).room).0

@@ -1,14 +1,16 @@
 -- What is promised of every state and every call, reachable or not. Assumes nothing: these are definitions.
-use Rattle.std.specs.Prelude.{ℕ, ◌+◌, ◌*◌, ◌^◌, ◌<◌, ◌≤◌, true, false, ◌↔◌, ◌⊎◌, ◌≡◌, length}
-use Rattle.std.proofs.Math.Option.{none, some}
+use Rattle.std.specs.Prelude.{ℕ, ◌+◌, ◌*◌, ◌^◌, ◌<◌, ◌≤◌, true, false, ◌↔◌, ◌⊎◌, ◌≡◌, length, None, Some, Ok}
 use Rattle.mask.specs.Member.{holds}
 use Rattle.walks.specs.Walk.{WalkEnd, named}
 use Rattle.walks.specs.Marks.{count}
 use Rattle.walks.specs.Rows.{rows}
 use Rattle.walks.specs.Machine.{machine}
 use Rattle.numbers.specs.Ticket.{after}
+use Rattle.refusals.specs.declared.refusal.Refusal.{Refusal}
+use Rattle.refusals.specs.declared.refusal.Refusal.TheVariants.{Full, Unsound}
+use Rattle.refusals.specs.Number.{number}
 use Rattle.coordinator.specs.declared.Coordinator.{Coordinator}
-use Rattle.coordinator.specs.declared.answers.CloseAnswer.{CloseAnswer}
+use Rattle.coordinator.specs.declared.answers.Closed.{Closed}
 use Rattle.coordinator.specs.Limits.{jobs, databases}
 use Rattle.coordinator.specs.Fresh.{fresh}
 use Rattle.coordinator.specs.Views.{entry, is_open, dep}
@@ -29,16 +31,17 @@ use Rattle.promises.specs.Moment.{Fits}
 -- Demand 1
 pub record Refusals : Type 0 where
   -- a refusal answers its number and zeros, and changes nothing, the next ticket number included
-  pub changes_nothing : (s : Coordinator) (c : Call) (n : ℕ) → refusal_of s c ≡ some n → play s c ≡ record { values = refused n; state = s }
+  pub changes_nothing : (s : Coordinator) (c : Call) (r : Refusal) → refusal_of s c ≡ Some r → play s c ≡ record { values = refused (number r); state = s }
   -- where no row applies the call is accepted, and 0 stands for the number
-  pub accepts : (s : Coordinator) (c : Call) → refusal_of s c ≡ none → (play s c).values.refusal ≡ 0
-  -- a state that isn't sound is refused with 10, whatever the call
-  pub damaged : (s : Coordinator) (c : Call) → Shape s → ¬ Sound s → refusal_of s c ≡ some 10
-  -- the number is that of the first row that applies, and where there is no refusal none does
-  pub first_row : (s : Coordinator) (c : Call) (n : ℕ) → refusal_of s c ≡ some n → FirstApplies (rows_of s c) n
-  pub no_row : (s : Coordinator) (c : Call) → refusal_of s c ≡ none → (i : ℕ) → i < length (rows_of s c) → (row (rows_of s c) i).applies ≡ false
-  -- no refusal has the number 0
-  pub numbered : (s : Coordinator) (c : Call) (n : ℕ) → refusal_of s c ≡ some n → ¬ (n ≡ 0)
+  pub accepts : (s : Coordinator) (c : Call) → refusal_of s c ≡ None → (play s c).values.refusal ≡ 0
+  -- a state that isn't sound is refused as such, with 10, whatever the call
+  pub damaged : (s : Coordinator) (c : Call) → Shape s → ¬ Sound s → refusal_of s c ≡ Some Unsound
+  -- the refusal is that of the first row that applies, and where there is no refusal none does
+  pub first_row : (s : Coordinator) (c : Call) (r : Refusal) → refusal_of s c ≡ Some r → FirstApplies (rows_of s c) r
+  pub no_row : (s : Coordinator) (c : Call) → refusal_of s c ≡ None → (i : ℕ) → i < length (rows_of s c) → (row (rows_of s c) i).applies ≡ false
+  -- no refusal has the number 0, and no two have the same
+  pub numbered : (s : Coordinator) (c : Call) (r : Refusal) → refusal_of s c ≡ Some r → ¬ (number r ≡ 0)
+  pub told_apart : (q r : Refusal) → number q ≡ number r → q ≡ r
 
 pub record Soundness : Type 0 where
   -- the test is true exactly where document 01's clauses hold
@@ -79,8 +82,8 @@ module _ (s : Coordinator) (mask : ℕ) where
     pub foreseen : (play s (open_job mask)).values.moves ≤ most_moves s
 
 pub record Calls : Type 0 where
-  pub opening : (s : Coordinator) (mask : ℕ) → Shape s → mask < 2 ^ 16 → open_refusal s mask ≡ none → Opened s mask
+  pub opening : (s : Coordinator) (mask : ℕ) → Shape s → mask < 2 ^ 16 → open_refusal s mask ≡ None → Opened s mask
   -- a confirm releases at most one: its release holds the others
-  pub holds_others : (s : Coordinator) (t k : ℕ) → Shape s → confirm_refusal s t k ≡ none → (play s (confirm_step t k)).values.released ≡ 1 → may_go_at (play s (confirm_step t k)).state k ≡ 0
-  -- refusal 2 never stays after a close that closed
-  pub room_again : (s : Coordinator) (t n mask : ℕ) → Shape s → (after_close s t).answer ≡ CloseAnswer.Closed n → ¬ (open_refusal (after_close s t).state mask ≡ some 2)
+  pub holds_others : (s : Coordinator) (t k : ℕ) → Shape s → confirm_refusal s t k ≡ None → (play s (confirm_step t k)).values.released ≡ 1 → may_go_at (play s (confirm_step t k)).state k ≡ 0
+  -- refusal 2, for want of a slot, never stays after a close that closed
+  pub room_again : (s : Coordinator) (t mask : ℕ) (c : Closed) → Shape s → (after_close s t).answer ≡ Ok (Some c) → ¬ (open_refusal (after_close s t).state mask ≡ Some Full)

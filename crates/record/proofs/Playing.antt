@@ -1,112 +1,93 @@
--- Each call's numbers, tickets and state left are what the record answers. Assumes nothing.
+-- Each call's row and the state left are what the record answers. Assumes nothing.
 use Prim.Native.Nat.{ℕ}
 use mathlib.Core.Bool.{Bool}
 use mathlib.Core.List.{List, []}
-use mathlib.Core.Option.{Option, none, some}
+use Rattle.std.specs.Prelude.{Option, None, Some, Result, Ok, Err}
 use mathlib.Core.Path.{◌≡◌, refl, sym, ap, subst, ◌∙◌}
-use lib.ListN.{get_or, replicate}
+use lib.ListN.{get_or}
 use Rattle.coordinator.specs.declared.Coordinator.{Coordinator}
-use Rattle.coordinator.specs.declared.answers.OpenAnswer.{OpenAnswer}
-use Rattle.coordinator.specs.declared.answers.AskAnswer.{AskAnswer}
-use Rattle.coordinator.specs.declared.answers.ConfirmAnswer.{ConfirmAnswer}
-use Rattle.coordinator.specs.declared.answers.CloseAnswer.{CloseAnswer}
-use Rattle.coordinator.specs.declared.answers.AfterOpen.{AfterOpen}
-use Rattle.coordinator.specs.declared.answers.AfterAsk.{AfterAsk}
-use Rattle.coordinator.specs.declared.answers.AfterConfirm.{AfterConfirm}
-use Rattle.coordinator.specs.declared.answers.AfterClose.{AfterClose}
+use Rattle.coordinator.specs.declared.answers.After.{After}
+use Rattle.coordinator.specs.declared.answers.Opened.{Opened}
+use Rattle.coordinator.specs.declared.answers.Asked.{Asked}
+use Rattle.coordinator.specs.declared.answers.Closed.{Closed}
 use Rattle.coordinator.specs.Limits.{jobs}
 use Rattle.coordinator.specs.Test.{sound}
 use Rattle.coordinator.specs.Open.{after_open_tested}
 use Rattle.coordinator.specs.Ask.{after_ask_tested}
 use Rattle.coordinator.specs.Confirm.{after_confirm_tested}
 use Rattle.coordinator.specs.Close.{after_close_tested}
-use Rattle.coordinator.specs.Answer.{refused, open_values, ask_values, confirm_values, close_values}
+use Rattle.coordinator.specs.Answer.{Values, refused, open_values, ask_values, confirm_values, close_values}
 use Rattle.coordinator.specs.Call.{Call, open_job, ask_step, confirm_step, close_job, Played, play}
 use Rattle.coordinator.proofs.Tested.{open_is, ask_is, confirm_is, close_is}
-use Rattle.record.specs.declared.answer.Numbers.{Numbers}
+use Rattle.numbers.specs.declared.Ticket.{Ticket}
+use Rattle.refusals.specs.declared.refusal.Refusal.{Refusal}
 use Rattle.record.specs.declared.answer.Answer.{Answer}
+use Rattle.record.specs.declared.answer.Numbers.{Numbers}
 use Rattle.record.specs.Answer.{numbers_of, answer}
+use Rattle.record.specs.Row.{no_tickets, tickets_of}
 use Rattle.record.specs.Tested.{answer_tested, Plays}
 use Rattle.record.proofs.Tickets.{none_there, Told, close_told}
 
-no_opened : (a : OpenAnswer) → (open_values a).tickets ≡ []
-no_opened (OpenAnswer.Refused n) = refl
-no_opened (OpenAnswer.Opened t a m) = refl
+no_opened : (a : Result Opened Refusal) → (open_values a).tickets ≡ []
+no_opened (Ok o) = refl
+no_opened (Err r) = refl
 
-no_asked : (a : AskAnswer) → (ask_values a).tickets ≡ []
-no_asked (AskAnswer.Refused n) = refl
-no_asked AskAnswer.Released = refl
-no_asked AskAnswer.Held = refl
+no_asked : (a : Result Asked Refusal) → (ask_values a).tickets ≡ []
+no_asked (Ok Asked.Released) = refl
+no_asked (Ok Asked.Held) = refl
+no_asked (Err r) = refl
 
-no_confirmed : (a : ConfirmAnswer) → (confirm_values a).tickets ≡ []
-no_confirmed (ConfirmAnswer.Refused n) = refl
-no_confirmed (ConfirmAnswer.Released t) = refl
-no_confirmed ConfirmAnswer.Nothing = refl
+no_confirmed : (a : Result (Option Ticket) Refusal) → (confirm_values a).tickets ≡ []
+no_confirmed (Ok (Some t)) = refl
+no_confirmed (Ok None) = refl
+no_confirmed (Err r) = refl
 
--- a close's numbers do not depend on its tickets
-any_tickets : (a : CloseAnswer) (l : List ℕ) → numbers_of (close_values a []) ≡ numbers_of (close_values a l)
-any_tickets (CloseAnswer.Refused n) l = refl
-any_tickets CloseAnswer.Held l = refl
-any_tickets (CloseAnswer.Closed n) l = refl
-
--- the answer of a call that closes nothing
-abbrev Blank : Numbers → Answer
-Blank n = record { numbers = n; tickets = replicate jobs 0 }
-
-blank : (p q : Played) (a : Answer) (n : Numbers) → p ≡ q → p.values.tickets ≡ [] → a ≡ Blank n → n ≡ numbers_of p.values → Plays q a p.state
-blank p q a n e z b v = subst (λ (x : Played). Plays x a p.state) e (record {
+-- of a call that closes nothing
+bare_plays : (p q : Played) (a : Answer) (n : Numbers) → p ≡ q → p.values.tickets ≡ [] → n ≡ numbers_of p.values → a ≡ record { numbers = n; tickets = no_tickets } → Plays q a p.state
+bare_plays p q a n e z v b = subst (λ (x : Played). Plays x a p.state) e (record {
   numbers = ap (λ (x : Answer). x.numbers) b ∙ v;
   tickets = λ i. ap (λ (l : List ℕ). get_or l i 0) z ∙ none_there jobs i ∙ ap (λ (x : Answer). get_or x.tickets i 0) (sym b);
   state = refl;
 })
 
-module _ (isSound : Bool) (s : Coordinator) (a : Answer) (n : Numbers) where
-  pub open_plays : (mask : ℕ) (r : AfterOpen) → r ≡ after_open_tested isSound s mask → n ≡ numbers_of (open_values r.answer) → a ≡ Blank n
-      → Plays (answer_tested isSound s (some (open_job mask))) a r.state
-  unfolding answer_tested
-  open_plays mask r e v b =
-      blank (record { values = open_values r.answer; state = r.state }) _ a n
-      (ap {B = Played} (λ (x : AfterOpen). record { values = open_values x.answer; state = x.state }) e) (no_opened r.answer) b v
+-- what a call of one kind left, played
+abbrev played : {A : Type 0} → (Result A Refusal → Values) → After A → Played
+played values r = record { values = values r.answer; state = r.state }
 
-  pub ask_plays : (t k : ℕ) (r : AfterAsk) → r ≡ after_ask_tested isSound s t k → n ≡ numbers_of (ask_values r.answer) → a ≡ Blank n
-      → Plays (answer_tested isSound s (some (ask_step t k))) a r.state
+module _ (is_sound : Bool) (s : Coordinator) (a : Answer) (n : Numbers) where
+  pub open_plays : (mask : ℕ) (r : After Opened) → r ≡ after_open_tested is_sound s mask → n ≡ numbers_of (open_values r.answer) → a ≡ record { numbers = n; tickets = no_tickets } → Plays (answer_tested is_sound s (Some (open_job mask))) a r.state
   unfolding answer_tested
-  ask_plays t k r e v b =
-      blank (record { values = ask_values r.answer; state = r.state }) _ a n
-      (ap {B = Played} (λ (x : AfterAsk). record { values = ask_values x.answer; state = x.state }) e) (no_asked r.answer) b v
+  open_plays mask r e v b = bare_plays (played open_values r) _ a n (ap (played open_values) e) (no_opened r.answer) v b
 
-  pub confirm_plays : (t k : ℕ) (r : AfterConfirm) → r ≡ after_confirm_tested isSound s t k → n ≡ numbers_of (confirm_values r.answer) → a ≡ Blank n
-      → Plays (answer_tested isSound s (some (confirm_step t k))) a r.state
+  pub ask_plays : (t k : ℕ) (r : After Asked) → r ≡ after_ask_tested is_sound s t k → n ≡ numbers_of (ask_values r.answer) → a ≡ record { numbers = n; tickets = no_tickets } → Plays (answer_tested is_sound s (Some (ask_step t k))) a r.state
   unfolding answer_tested
-  confirm_plays t k r e v b =
-      blank (record { values = confirm_values r.answer; state = r.state }) _ a n
-      (ap {B = Played} (λ (x : AfterConfirm). record { values = confirm_values x.answer; state = x.state }) e) (no_confirmed r.answer) b v
+  ask_plays t k r e v b = bare_plays (played ask_values r) _ a n (ap (played ask_values) e) (no_asked r.answer) v b
 
-  pub none_plays : n ≡ numbers_of (refused 11) → a ≡ Blank n → Plays (answer_tested isSound s none) a s
+  pub confirm_plays : (t k : ℕ) (r : After (Option Ticket)) → r ≡ after_confirm_tested is_sound s t k → n ≡ numbers_of (confirm_values r.answer) → a ≡ record { numbers = n; tickets = no_tickets } → Plays (answer_tested is_sound s (Some (confirm_step t k))) a r.state
   unfolding answer_tested
-  none_plays v b = blank (record { values = refused 11; state = s }) _ a n refl refl b v
+  confirm_plays t k r e v b = bare_plays (played confirm_values r) _ a n (ap (played confirm_values) e) (no_confirmed r.answer) v b
 
-pub close_plays : (isSound : Bool) (s : Coordinator) (t : ℕ) (n : Numbers) (r : AfterClose) → r ≡ after_close_tested isSound s t → n ≡ numbers_of (close_values r.answer [])
-    → Plays (answer_tested isSound s (some (close_job t))) (record { numbers = n; tickets = r.tickets }) r.state
+  pub none_plays : n ≡ numbers_of (refused 11) → a ≡ record { numbers = n; tickets = no_tickets } → Plays (answer_tested is_sound s None) a s
+  unfolding answer_tested
+  none_plays v b = bare_plays (record { values = refused 11; state = s }) _ a n refl refl v b
+
+pub close_plays : (is_sound : Bool) (s : Coordinator) (a : Answer) (t : ℕ) (r : After (Option Closed)) → r ≡ after_close_tested is_sound s t → a ≡ record { numbers = numbers_of (close_values r.answer); tickets = tickets_of r.answer } →
+    Plays (answer_tested is_sound s (Some (close_job t))) a r.state
 unfolding answer_tested
-close_plays isSound s t n r e v = record {
-  numbers = v ∙ any_tickets r.answer r.tickets ∙ ap (λ (x : AfterClose). numbers_of (close_values x.answer x.tickets)) e;
-  tickets = λ i. ap (λ (x : AfterClose). get_or (close_values x.answer x.tickets).tickets i 0) (sym e) ∙ subst Told (sym e) (close_told isSound s t) i;
-  state = ap (λ (x : AfterClose). x.state) e;
-}
-
--- the same call, read otherwise
-pub as_call : (isSound : Bool) (s : Coordinator) (c d : Option Call) {a : Answer} {r : Coordinator} → c ≡ d → Plays (answer_tested isSound s d) a r → Plays (answer_tested isSound s c) a r
-as_call isSound s c d {a} {r} e p = subst (λ (x : Option Call). Plays (answer_tested isSound s x) a r) (sym e) p
+close_plays is_sound s a t r e b = subst (λ (x : Played). Plays x a r.state) (ap (played close_values) e) (record {
+  numbers = ap (λ (x : Answer). x.numbers) b;
+  tickets = λ i. subst Told (ap (λ (x : After (Option Closed)). x.answer) (sym e)) (close_told is_sound s t) i ∙ ap (λ (x : Answer). get_or x.tickets i 0) (sym b);
+  state = refl;
+})
 
 -- for the callers: where the test was made
-tested_is : (isSound : Bool) (s : Coordinator) → isSound ≡ sound s → (c : Option Call) → answer_tested isSound s c ≡ answer s c
+tested_is : (is_sound : Bool) (s : Coordinator) → is_sound ≡ sound s → (c : Option Call) → answer_tested is_sound s c ≡ answer s c
 unfolding answer_tested answer play
-tested_is isSound s e none = refl
-tested_is isSound s e (some (open_job mask)) = ap {B = Played} (λ (x : AfterOpen). record { values = open_values x.answer; state = x.state }) (open_is s isSound e mask)
-tested_is isSound s e (some (ask_step t k)) = ap {B = Played} (λ (x : AfterAsk). record { values = ask_values x.answer; state = x.state }) (ask_is s isSound e t k)
-tested_is isSound s e (some (confirm_step t k)) = ap {B = Played} (λ (x : AfterConfirm). record { values = confirm_values x.answer; state = x.state }) (confirm_is s isSound e t k)
-tested_is isSound s e (some (close_job t)) = ap {B = Played} (λ (x : AfterClose). record { values = close_values x.answer x.tickets; state = x.state }) (close_is s isSound e t)
+tested_is is_sound s e None = refl
+tested_is is_sound s e (Some (open_job mask)) = ap (played open_values) (open_is s is_sound e mask)
+tested_is is_sound s e (Some (ask_step t k)) = ap (played ask_values) (ask_is s is_sound e t k)
+tested_is is_sound s e (Some (confirm_step t k)) = ap (played confirm_values) (confirm_is s is_sound e t k)
+tested_is is_sound s e (Some (close_job t)) = ap (played close_values) (close_is s is_sound e t)
 
-pub plays_tested : (isSound : Bool) (s : Coordinator) (c : Option Call) (a : Answer) (r : Coordinator) → isSound ≡ sound s → Plays (answer_tested isSound s c) a r → Plays (answer s c) a r
-plays_tested isSound s c a r e p = subst (λ (x : Played). Plays x a r) (tested_is isSound s e c) p
+pub plays_tested : (is_sound : Bool) (s : Coordinator) (c : Option Call) (a : Answer) (r : Coordinator) → is_sound ≡ sound s → Plays (answer_tested is_sound s c) a r → Plays (answer s c) a r
+plays_tested is_sound s c a r e p = subst (λ (x : Played). Plays x a r) (tested_is is_sound s e c) p

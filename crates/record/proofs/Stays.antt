@@ -1,63 +1,43 @@
 -- A record leaves a state as sound as it was: one test serves many records. Assumes nothing.
 use Prim.Native.Nat.{ℕ, ◌^◌, ◌<◌}
-use mathlib.Core.Bool.{Bool, true, false}
-use mathlib.Core.Option.{Option, none, some}
+use mathlib.Core.Bool.{Bool}
+use Rattle.std.specs.Prelude.{Option, None, Some, Result, Ok, Err}
 use mathlib.Core.Path.{◌≡◌, refl, sym, ap, subst, ◌∙◌}
-use lib.Dec.{eqb}
 use Rattle.coordinator.specs.declared.Coordinator.{Coordinator}
 use Rattle.coordinator.specs.Shape.{Shape}
 use Rattle.coordinator.specs.Test.{sound}
-use Rattle.coordinator.specs.Call.{Call, open_job, ask_step, confirm_step, close_job, play}
+use Rattle.coordinator.specs.Call.{Call}
 use Rattle.soundness.specs.Kept.{MaskFits}
 use Rattle.soundness.proofs.Every.{test_stays}
-use Rattle.record.specs.Record.{call_of}
+use Rattle.record.specs.declared.request.Request.{Request}
+use Rattle.record.specs.declared.request.UnknownKind.{UnknownKind}
+use Rattle.record.specs.Request.{requested}
 use Rattle.record.specs.Answer.{answer}
 
 abbrev Fits : Option Call → Type 0
-Fits none = Unit {0}
-Fits (some c) = MaskFits c
+Fits None = Unit {0}
+Fits (Some c) = MaskFits c
 
-call_fits : (kind database value : ℕ) → value < 2 ^ 16 → Fits (call_of kind database value)
-unfolding call_of
-call_fits kind database value l = by (eqb kind 1) (eqb kind 2) (eqb kind 3) (eqb kind 4)
-  where
-    by : (a b c d : Bool)
-        → Fits (elim a [
-          | true ↦ some (open_job value)
-          | false ↦ elim b [
-            | true ↦ some (ask_step value database)
-            | false ↦ elim c [ true ↦ some (confirm_step value database) | false ↦ elim d [ true ↦ some (close_job value) | false ↦ none ] ]
-          ]
-        ])
-    by true b c d = l
-    by false true c d = tt
-    by false false true d = tt
-    by false false false true = tt
-    by false false false false = tt
+-- the mask's type says how long it is
+request_fits : (asked : Result Request UnknownKind) → ((mask : ℕ) → asked ≡ Ok (Request.Open mask) → mask < 2 ^ 16) → Fits (requested asked)
+request_fits (Err e) h = tt
+request_fits (Ok (Request.Open mask)) h = h mask refl
+request_fits (Ok (Request.Ask t k)) h = tt
+request_fits (Ok (Request.Confirm t k)) h = tt
+request_fits (Ok (Request.Close t)) h = tt
 
--- the state that a call leaves; what is no call leaves it as it was
-abbrev left_by : Coordinator → Option Call → Coordinator
-left_by s none = s
-left_by s (some c) = (play s c).state
-
-left_stays : (s : Coordinator) → Shape s → (o : Option Call) → Fits o → Shape (left_by s o) × (sound (left_by s o) ≡ sound s)
-left_stays s h none fits = (h, refl)
-left_stays s h (some c) fits = test_stays s h c fits
-
--- what is known between two records: b is what the test says of s
-abbrev pub Known : Bool → Coordinator → Type 0
-Known b s = (b ≡ sound s) × Shape s
-
-known_on : (b : Bool) (s r : Coordinator) (kind database value : ℕ) → value < 2 ^ 16 → Known b s → r ≡ left_by s (call_of kind database value) → Known b r
-known_on b s r kind database value l (e, h) p =
-    let k = left_stays s h (call_of kind database value) (call_fits kind database value l) in
-    (e ∙ sym k.1 ∙ ap sound (sym p), subst Shape (sym p) k.0)
-
-answer_left : (s : Coordinator) (c : Option Call) → (answer s c).state ≡ left_by s c
+left_stays : (s : Coordinator) → Shape s → (o : Option Call) → Fits o → Shape (answer s o).state × (sound (answer s o).state ≡ sound s)
 unfolding answer
-answer_left s none = refl
-answer_left s (some c) = refl
+left_stays s h None fits = (h, refl)
+left_stays s h (Some c) fits = test_stays s h c fits
 
--- and of a record: it was played given b, and r is the state left
-pub known_next : (b : Bool) (s r : Coordinator) (kind database value : ℕ) → value < 2 ^ 16 → Known b s → r ≡ (answer s (call_of kind database value)).state → Known b r
-known_next b s r kind database value l k p = known_on b s r kind database value l k (p ∙ answer_left s (call_of kind database value))
+-- b is what the test says of s, and then of the state left
+pub record Known (b : Bool) (s : Coordinator) : Type 0 where
+  pub is_told : b ≡ sound s
+  pub has_shape : Shape s
+
+pub known_next : (b : Bool) (s r : Coordinator) (asked : Result Request UnknownKind) → ((mask : ℕ) → asked ≡ Ok (Request.Open mask) → mask < 2 ^ 16) → b ≡ sound s → Shape s
+    → r ≡ (answer s (requested asked)).state → Known b r
+known_next b s r asked l e h p =
+    let k = left_stays s h (requested asked) (request_fits asked l) in
+    record { is_told = e ∙ sym k.1 ∙ ap sound (sym p); has_shape = subst Shape (sym p) k.0 }

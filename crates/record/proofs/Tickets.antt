@@ -3,21 +3,24 @@ use Prim.Native.Nat.{ℕ, zero, suc, ◌≤◌}
 use mathlib.Core.Path.{◌≡◌, refl, sym, ◌∙◌}
 use mathlib.Core.Bool.{Bool, true, false}
 use mathlib.Core.List.{List, [], ◌∷◌}
-use mathlib.Core.Option.{Option, none, some}
+use Rattle.std.specs.Prelude.{Option, None, Some}
 use native.Mathlib.Omega.{arith}
 use lib.Dec.{eqb}
 use lib.ListN.{get_or, take, replicate}
 use lib.Seq.{get_or-set_other}
 use Rattle.coordinator.specs.declared.Coordinator.{Coordinator}
-use Rattle.coordinator.specs.declared.answers.AfterClose.{AfterClose}
-use Rattle.coordinator.specs.declared.answers.CloseAnswer.{CloseAnswer}
 use Rattle.coordinator.specs.Limits.{jobs}
 use Rattle.coordinator.specs.Views.{ticket}
 use Rattle.coordinator.specs.Holder.{holder}
 use Rattle.coordinator.specs.Refusal.{close_refusal_tested}
 use Rattle.coordinator.specs.Release.{may_close, may_close_now, first_of}
 use Rattle.coordinator.specs.Answer.{close_values}
-use Rattle.coordinator.specs.Close.{Closing, no_tickets, close_one, close_held, closing, closed_at, after_close_tested}
+use Rattle.coordinator.specs.Close.{Closing, close_one, close_held, closing, closed_at, after_close_tested}
+use Rattle.coordinator.specs.declared.answers.After.{After}
+use Rattle.coordinator.specs.declared.answers.Closed.{Closed as Declared}
+use Rattle.refusals.specs.declared.refusal.Refusal.{Refusal}
+use Rattle.std.specs.Prelude.{Result, Err}
+use Rattle.record.specs.Row.{tickets_of}
 
 -- no tickets, and an array of zeros
 pub none_there : (n i : ℕ) → ◌≡◌ {A = ℕ} (get_or [] i 0) (get_or (replicate n 0) i 0)
@@ -56,18 +59,18 @@ all_closed : (s : Coordinator) (j : ℕ) → Closed (closing s j)
 unfolding closing
 all_closed s j = held_closed jobs _ (one_closed (record { count = 0; tickets = replicate jobs 0; state = s }) j (λ i m. sym (none_there jobs i)))
 
--- the tickets beside a close's answer are those that it tells, and zeros
-abbrev pub Told : AfterClose → Type 0
-Told r = (i : ℕ) → get_or (close_values r.answer r.tickets).tickets i 0 ≡ get_or r.tickets i 0
+-- the tickets of a close's answer are those that it tells, and zeros
+abbrev pub Told : Result (Option Declared) Refusal → Type 0
+Told a = (i : ℕ) → get_or (close_values a).tickets i 0 ≡ get_or (tickets_of a) i 0
 
-closed_told_lem : (s : Coordinator) (j : ℕ) → Told (closed_at s j)
+closed_told : (s : Coordinator) (j : ℕ) → Told (closed_at s j).answer
 unfolding closed_at
-closed_told_lem s j = either Told (may_close s j) _ _ (front (closing s j).count (closing s j).tickets (all_closed s j)) (none_there jobs)
+closed_told s j = either (λ (r : After (Option Declared)). Told r.answer) (may_close s j) _ _ (front (closing s j).count (closing s j).tickets (all_closed s j)) (none_there jobs)
 
-refused_told : (s : Coordinator) (o : Option ℕ) (r : AfterClose) → Told r → Told (elim o [ none ↦ r | some n ↦ record { answer = CloseAnswer.Refused n; tickets = no_tickets; state = s } ])
-refused_told s none r h = h
-refused_told s (some n) r h = none_there jobs
+refused_told : (s : Coordinator) (o : Option Refusal) (r : After (Option Declared)) → Told r.answer → let x : After (Option Declared) = elim o [ None ↦ r | Some n ↦ record { answer = Err n; state = s } ] in Told x.answer
+refused_told s None r h = h
+refused_told s (Some n) r h = none_there jobs
 
-pub close_told : (b : Bool) (s : Coordinator) (t : ℕ) → Told (after_close_tested b s t)
+pub close_told : (b : Bool) (s : Coordinator) (t : ℕ) → Told (after_close_tested b s t).answer
 unfolding after_close_tested
-close_told b s t = refused_told s (close_refusal_tested b s t) (closed_at s (holder s t)) (closed_told_lem s (holder s t))
+close_told b s t = refused_told s (close_refusal_tested b s t) (closed_at s (holder s t)) (closed_told s (holder s t))

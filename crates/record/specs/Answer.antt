@@ -1,5 +1,5 @@
 -- What a record answers. Assumes nothing: these are definitions.
-use Rattle.std.proofs.Math.Option.{Option, none, some}
+use Rattle.std.specs.Prelude.{Option, None, Some}
 use Rattle.coordinator.specs.declared.Coordinator.{Coordinator}
 use Rattle.coordinator.specs.Answer.{Values, refused}
 use Rattle.coordinator.specs.Call.{Call, Played, play}
@@ -11,5 +11,5 @@ numbers_of v = record { refusal = v.refusal; released = v.released; closed = v.c
 
 -- a call is played; what is no call is refused by 11, and changes nothing
 unfoldable pub answer : Coordinator → Option Call → Played
-answer s none = record { values = refused 11; state = s }
-answer s (some c) = play s c
+answer s None = record { values = refused 11; state = s }
+answer s (Some c) = play s c

@@ -1,11 +1,7 @@
 -- What a record answers given whether the state is sound, and how the code tells it. Assumes nothing: these are definitions.
 use Rattle.std.specs.Prelude.{ℕ, Bool, ◌≡◌, get_or}
-use Rattle.std.proofs.Math.Option.{Option, none, some}
+use Rattle.std.specs.Prelude.{Option, None, Some}
 use Rattle.coordinator.specs.declared.Coordinator.{Coordinator}
-use Rattle.coordinator.specs.declared.answers.AfterOpen.{AfterOpen}
-use Rattle.coordinator.specs.declared.answers.AfterAsk.{AfterAsk}
-use Rattle.coordinator.specs.declared.answers.AfterConfirm.{AfterConfirm}
-use Rattle.coordinator.specs.declared.answers.AfterClose.{AfterClose}
 use Rattle.coordinator.specs.Open.{after_open_tested}
 use Rattle.coordinator.specs.Ask.{after_ask_tested}
 use Rattle.coordinator.specs.Confirm.{after_confirm_tested}
@@ -14,13 +10,18 @@ use Rattle.coordinator.specs.Answer.{refused, open_values, ask_values, confirm_v
 use Rattle.coordinator.specs.Call.{Call, open_job, ask_step, confirm_step, close_job, Played}
 use Rattle.record.specs.declared.answer.Answer.{Answer}
 use Rattle.record.specs.Answer.{numbers_of}
+use Rattle.coordinator.specs.declared.answers.After.{After}
+use Rattle.coordinator.specs.declared.answers.Opened.{Opened}
+use Rattle.coordinator.specs.declared.answers.Asked.{Asked}
+use Rattle.coordinator.specs.declared.answers.Closed.{Closed}
+use Rattle.numbers.specs.declared.Ticket.{Ticket}
 
 unfoldable pub answer_tested : Bool → Coordinator → Option Call → Played
-answer_tested isSound s none = record { values = refused 11; state = s }
-answer_tested isSound s (some (open_job mask)) = let r : AfterOpen = after_open_tested isSound s mask in record { values = open_values r.answer; state = r.state }
-answer_tested isSound s (some (ask_step t k)) = let r : AfterAsk = after_ask_tested isSound s t k in record { values = ask_values r.answer; state = r.state }
-answer_tested isSound s (some (confirm_step t k)) = let r : AfterConfirm = after_confirm_tested isSound s t k in record { values = confirm_values r.answer; state = r.state }
-answer_tested isSound s (some (close_job t)) = let r : AfterClose = after_close_tested isSound s t in record { values = close_values r.answer r.tickets; state = r.state }
+answer_tested is_sound s None = record { values = refused 11; state = s }
+answer_tested is_sound s (Some (open_job mask)) = let r : After Opened = after_open_tested is_sound s mask in record { values = open_values r.answer; state = r.state }
+answer_tested is_sound s (Some (ask_step t k)) = let r : After Asked = after_ask_tested is_sound s t k in record { values = ask_values r.answer; state = r.state }
+answer_tested is_sound s (Some (confirm_step t k)) = let r : After (Option Ticket) = after_confirm_tested is_sound s t k in record { values = confirm_values r.answer; state = r.state }
+answer_tested is_sound s (Some (close_job t)) = let r : After (Option Closed) = after_close_tested is_sound s t in record { values = close_values r.answer; state = r.state }
 
 -- p is what was played, r tells its values, zeros after its tickets, and s is the state left
 pub record Plays (p : Played) (r : Answer) (s : Coordinator) : Type 0 where

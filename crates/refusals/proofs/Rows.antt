@@ -1,47 +1,55 @@
--- Going down the rows of a table of refusals: what the number that the code answers tells. Assumes nothing.
+-- Going down the rows of a table of refusals: what the outcome that the code gives back tells. Assumes nothing.
 use mathlib.Core.Path.{◌≡◌, refl, sym, ap}
 use mathlib.Core.Bool.{Bool, true, false, not}
 use mathlib.Core.List.{List, [], ◌∷◌}
-use mathlib.Core.Option.{Option, none, some}
+use Rattle.std.specs.Prelude.{Option, None, Some}
 use Prim.Native.Nat.{ℕ, ◌<◌}
 use borrow.Author.Tests.{ltb-true}
 use lib.Dec.{eqb, ltb}
+use Rattle.std.specs.Prelude.{Result, Ok, Err}
 use Rattle.tables.specs.Limits.{databases}
-use Rattle.refusals.specs.Refusal.{Row, first_row, number_of, step_refusal}
+use Rattle.refusals.specs.declared.refusal.Refusal.{Refusal}
+use Rattle.refusals.specs.declared.refusal.Refusal.TheVariants.{Unsound, NoJob, NoDatabase}
+use Rattle.refusals.specs.Refusal.{Row, first_row, step_refusal}
+use Rattle.refusals.specs.Outcome.{outcome}
 
--- a number that is not 0 is that of a row
-pub refused : (o : Option ℕ) (r : ℕ) → r ≡ number_of o → ¬ (r ≡ 0) → o ≡ some r
-refused none r e n = absurd (n e)
-refused (some m) r e n = ap some (sym e)
+-- what is given back tells whether a row applies, and which is the first
+pub not_refused : (o : Option Refusal) (u : Unit {0}) → ◌≡◌ {A = Result (Unit {0}) Refusal} (Ok u) (outcome o) → o ≡ None
+not_refused None u e = refl
+not_refused (Some r) u e = absurd cc
 
-pub no_row : first_row [] ≡ none
+pub refused : (o : Option Refusal) (r : Refusal) → ◌≡◌ {A = Result (Unit {0}) Refusal} (Err r) (outcome o) → o ≡ Some r
+refused None r e = absurd cc
+refused (Some m) r e = cc
+
+pub no_row : first_row [] ≡ None
 unfolding first_row
 no_row = refl
 
--- 0 tells that the first row does not apply, and none below it
-pub passed : (r : Row) (rows : List Row) → ¬ (r.number ≡ 0) → number_of (first_row (r ∷ rows)) ≡ 0 → (r.applies ≡ false) × (first_row (r ∷ rows) ≡ first_row rows) × (number_of (first_row rows) ≡ 0)
+-- where no row applies the first does not, and none below it
+pub passed : (r : Row) (rows : List Row) → first_row (r ∷ rows) ≡ None → (r.applies ≡ false) × (first_row rows ≡ None)
 unfolding first_row
-passed r rows n e = by r.applies refl e
+passed r rows e = by r.applies refl e
   where
-    by : (b : Bool) → r.applies ≡ b → number_of (elim b [ true ↦ some r.number | false ↦ first_row rows ]) ≡ 0
-        → (b ≡ false) × (elim b [ true ↦ some r.number | false ↦ first_row rows ] ≡ first_row rows) × (number_of (first_row rows) ≡ 0)
-    by true p e = absurd (n e)
-    by false p e = (refl, refl, e)
+    by : (b : Bool) → r.applies ≡ b → ◌≡◌ {A = Option Refusal} (elim b [ true ↦ Some r.refusal | false ↦ first_row rows ]) None
+        → (b ≡ false) × (first_row rows ≡ None)
+    by true p e = absurd cc
+    by false p e = (refl, e)
 
 -- the rows below the one of the database count only where there is such a database
 third : (a b : Bool) (rows others : List Row)
-    → first_row (record { applies = a; number = 10 } ∷ record { applies = b; number = 3 } ∷ record { applies = true; number = 4 } ∷ rows)
-    ≡ first_row (record { applies = a; number = 10 } ∷ record { applies = b; number = 3 } ∷ record { applies = true; number = 4 } ∷ others)
+    → first_row (record { applies = a; refusal = Unsound } ∷ record { applies = b; refusal = NoJob } ∷ record { applies = true; refusal = NoDatabase } ∷ rows)
+    ≡ first_row (record { applies = a; refusal = Unsound } ∷ record { applies = b; refusal = NoJob } ∷ record { applies = true; refusal = NoDatabase } ∷ others)
 unfolding first_row
 third true b rows others = refl
 third false true rows others = refl
 third false false rows others = refl
 
-pub rows_same : (b : Bool) (f k : ℕ) (names applies named applied : Bool) (m : ℕ) → (k < databases → names ≡ named) → (k < databases → applies ≡ applied)
-    → step_refusal b f k names applies m ≡ step_refusal b f k named applied m
+pub rows_same : (b : Bool) (f k : ℕ) (names applies named applied : Bool) (own : Refusal) → (k < databases → names ≡ named) → (k < databases → applies ≡ applied)
+    → step_refusal b f k names applies own ≡ step_refusal b f k named applied own
 unfolding step_refusal
-rows_same b f k names applies named applied m p q = by (ltb k databases) refl
+rows_same b f k names applies named applied own p q = by (ltb k databases) refl
   where
-    by : (x : Bool) → ltb k databases ≡ x → step_refusal b f k names applies m ≡ step_refusal b f k named applied m
+    by : (x : Bool) → ltb k databases ≡ x → step_refusal b f k names applies own ≡ step_refusal b f k named applied own
     by true e = rw (p (ltb-true k databases e), q (ltb-true k databases e))
     by false e = rw (step_refusal, step_refusal, e) (third (not b) (eqb f 0) _ _)

@@ -1,70 +1,80 @@
 #![tactic(auto)]
-// Refusals, by the rows of document 01's table: the number of the first that applies, or 0. What a row asks is told in plain values; there is no state here.
+// Refusals, by the rows of document 01's table: the first that applies, if one does. What a row asks is told in plain values, as `slot_rows`, `step_rows` and `job_rows` have it; there is no state here.
+mod refusal;
+
 ghost use Rattle.std.specs.Prelude.{◌≡◌};
 ghost use Rattle.mask.specs.Member.{size};
 ghost use Rattle.tables.specs.Limits.{jobs};
-ghost use Rattle.refusals.specs.Refusal.{number_of, slot_refusal, step_refusal, job_refusal};
+ghost use Rattle.refusals.specs.Refusal.{slot_refusal, step_refusal, job_refusal};
+ghost use Rattle.refusals.specs.Outcome.{outcome};
 
+use mask::Set;
 use numbers::{Database, Slot};
+pub use refusal::Refusal;
 
 // Of open.
 #[tactic(auto, unfolding(crate::specs::Refusal::slot_refusal, crate::specs::Refusal::first_row))]
-pub fn of_open(sound: bool, mask: u16, slots: u32) -> u8
-    ensures { result ≡ number_of (slot_refusal sound mask (size jobs slots)) }
+pub fn of_open(sound: bool, mask: u16, slots: u32) -> Result<(), Refusal>
+    ensures { result ≡ outcome (slot_refusal sound mask (size jobs slots)) }
 {
-    let names_none = mask == 0;
-    let is_full = mask::slots::size(slots) as usize == Slot::COUNT;
     if !sound {
-        return 10;
+        return Err(Refusal::Unsound);
     }
-    if names_none {
-        return 1;
+    if mask == 0 {
+        return Err(Refusal::NamesNone);
     }
-    if is_full {
-        return 2;
+    if slots.size() as usize == Slot::COUNT {
+        return Err(Refusal::Full);
     }
-    0
+    Ok(())
 }
 
 // Of ask and confirm. `found` are the slots that hold the ticket, `names` says whether the job names database k; the last row is the call's own.
 #[tactic(auto, unfolding(crate::specs::Refusal::step_refusal, crate::specs::Refusal::first_row))]
-pub fn of_step(sound: bool, found: u32, k: Database, names: bool, applies: bool, number: u8) -> u8
-    ensures { result ≡ number_of (step_refusal sound found k.0 names applies number) }
+pub fn of_step(
+    sound: bool,
+    found: u32,
+    k: Database,
+    names: bool,
+    applies: bool,
+    own: Refusal,
+) -> Result<(), Refusal>
+    ensures { result ≡ outcome (step_refusal sound found k.0 names applies own) }
 {
     if !sound {
-        return 10;
+        return Err(Refusal::Unsound);
     }
     if found == 0 {
-        return 3;
+        return Err(Refusal::NoJob);
     }
     if k.0 as usize >= Database::COUNT {
-        return 4;
+        return Err(Refusal::NoDatabase);
     }
     if !names {
-        return 5;
+        return Err(Refusal::NotNamed);
     }
     if applies {
-        return number;
+        return Err(own);
     }
-    0
+    Ok(())
 }
 
 // Of close. `confirmed` says whether every step of the job is, `held` whether its close is.
 #[tactic(auto, unfolding(crate::specs::Refusal::job_refusal, crate::specs::Refusal::first_row))]
-pub fn of_close(sound: bool, found: u32, confirmed: bool, held: bool) -> u8
-    ensures { result ≡ number_of (job_refusal sound found confirmed held) }
+pub fn of_close(sound: bool, found: u32, confirmed: bool, held: bool) -> Result<(), Refusal>
+    ensures { result ≡ outcome (job_refusal sound found confirmed held) }
 {
     if !sound {
-        return 10;
+        return Err(Refusal::Unsound);
     }
     if found == 0 {
-        return 3;
+        return Err(Refusal::NoJob);
     }
     if !confirmed {
-        return 8;
+        return Err(Refusal::Unfinished);
     }
     if held {
-        return 9;
+        return Err(Refusal::CloseHeld);
     }
-    0
+    Ok(())
 }

@@ -1,25 +1,20 @@
 -- What the search has goes on from part to part: what was marked stays, and what was through stays through. Assumes nothing.
-use Prim.Native.Nat.{ℕ, ◌+◌, ◌^◌, ◌<◌, ◌≤◌}
+use Prim.Native.Nat.{ℕ, ◌≤◌}
 use native.Mathlib.Omega.{arith}
 use mathlib.Core.Bool.{true, false}
-use mathlib.Core.List.{List}
 use mathlib.Core.Logic.{◌⊎◌, inl, inr}
-use mathlib.Core.Path.{◌≡◌, refl}
-use Rattle.walks.proofs.Marking.{count_le, count_mono}
+use mathlib.Core.Path.{◌≡◌}
+use Rattle.walks.proofs.Marking.{count_mono}
 use Rattle.walks.proofs.Next.{Hit}
-use Rattle.search.specs.Search.{graph}
-use Rattle.search.specs.Visit.{marks, sets, SoFar, unmarked, Ready, Through, Taken, Onward}
+use Rattle.search.specs.declared.Walker.{Walker}
+use Rattle.search.specs.Visit.{marks, Given, graph_of, sets, unmarked, Ready, Through, Taken, Onward}
 
-module _ {named dependencies : List ℕ} {n : ℕ} where
-  -- one more move fits
-  pub room : {s : SoFar} → Ready named dependencies n s → s.moves + 1 < 2 ^ 32
-  room {s} h = omega (arith, h.fits, count_le marks s.reached, count_le marks s.found)
-
-  module _ {s r : SoFar} (h : Onward named dependencies n s r) where
-    pub hit_on : {v u w : ℕ} → Hit (graph named dependencies n) marks s.reached s.found v u w → Hit (graph named dependencies n) marks r.reached r.found v u w
+module _ {g : Given} where
+  module _ {s r : Walker} (h : Onward g s r) where
+    pub hit_on : {v u w : ℕ} → Hit (graph_of g) marks s.reached s.found v u w → Hit (graph_of g) marks r.reached r.found v u w
     hit_on {v} {u} {w} k = record { closes = λ e. h.found v u (k.closes e); enters = λ e. h.reached w u (k.enters e) }
 
-    pub through_on : {v u : ℕ} → Through named dependencies n s.reached s.found v u → Through named dependencies n r.reached r.found v u
+    pub through_on : {v u : ℕ} → Through g s.reached s.found v u → Through g r.reached r.found v u
     through_on k = record { hits = λ w l. hit_on (k.hits w l) }
 
     taken_on : {w t : ℕ} → Taken s.ahead w t → Taken r.ahead w t
@@ -29,7 +24,7 @@ module _ {named dependencies : List ℕ} {n : ℕ} where
     pub unmarked_le : unmarked r.reached ≤ unmarked s.reached
     unmarked_le = omega (arith, count_mono marks s.reached r.reached h.reached)
 
-  pub onward_refl : {s : SoFar} → Ready named dependencies n s → Onward named dependencies n s s
+  pub onward_refl : {s : Walker} → Ready g s → Onward g s s
   onward_refl h = record {
     ready = h;
     ahead = λ v u e. e;
@@ -37,10 +32,9 @@ module _ {named dependencies : List ℕ} {n : ℕ} where
     found = λ v u e. e;
     through = λ v u e. inl e;
     taken = λ w t e. inl e;
-    tally = refl;
   }
 
-  pub onward_then : {a b c : SoFar} → Onward named dependencies n a b → Onward named dependencies n b c → Onward named dependencies n a c
+  pub onward_then : {a b c : Walker} → Onward g a b → Onward g b c → Onward g a c
   onward_then {a} {b} {c} p q = record {
     ready = q.ready;
     ahead = λ v u e. q.ahead v u (p.ahead v u e);
@@ -48,14 +42,13 @@ module _ {named dependencies : List ℕ} {n : ℕ} where
     found = λ v u e. q.found v u (p.found v u e);
     through = λ v u e. before v u (q.through v u e);
     taken = λ w t e. stood w t (q.taken w t e);
-    tally = omega (arith, p.tally, q.tally);
   }
     where
-      early : (v u : ℕ) → (sets.has a.ahead u v ≡ false) ⊎ Through named dependencies n b.reached b.found v u → (sets.has a.ahead u v ≡ false) ⊎ Through named dependencies n c.reached c.found v u
+      early : (v u : ℕ) → (sets.has a.ahead u v ≡ false) ⊎ Through g b.reached b.found v u → (sets.has a.ahead u v ≡ false) ⊎ Through g c.reached c.found v u
       early v u (inl e) = inl e
       early v u (inr k) = inr (through_on q k)
 
-      before : (v u : ℕ) → (sets.has b.ahead u v ≡ false) ⊎ Through named dependencies n c.reached c.found v u → (sets.has a.ahead u v ≡ false) ⊎ Through named dependencies n c.reached c.found v u
+      before : (v u : ℕ) → (sets.has b.ahead u v ≡ false) ⊎ Through g c.reached c.found v u → (sets.has a.ahead u v ≡ false) ⊎ Through g c.reached c.found v u
       before v u (inl e) = early v u (p.through v u e)
       before v u (inr k) = inr k
 

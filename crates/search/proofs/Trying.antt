@@ -3,7 +3,9 @@ use Prim.Native.Nat.{ℕ, ◌-◌, ◌*◌, ◌%◌, ◌^◌, ◌<◌}
 use native.Mathlib.Nat.{le_trans}
 use mathlib.Core.Path.{◌∙◌}
 use lib.Bits.{bit_and, and_le_l}
-use Rattle.mask.specs.Member.{excluding}
+use Rattle.mask.specs.Member.{excluding, lowest}
+use Rattle.mask.proofs.Lowest.{trailing_lowest}
+use Rattle.mask.proofs.Walking.{rest_falls}
 use Rattle.mask.proofs.Change.{excluding_le, excluding_lt, less_lt}
 use Rattle.mask.proofs.Holds.{holds_excluding, holds_less}
 use Rattle.mask.proofs.Words.{and_not_shl}
@@ -19,3 +21,6 @@ others_are all reached v a b l =
       most = le_trans (and_le_l (excluding all v) (2 ^ jobs - 1 - reached)) (excluding_le all v);
       members = λ j h. holds_less jobs (excluding all v) reached j b h ∙ rw (holds_excluding all v j);
     })
+
+pub lowest_out : (m : ℕ) → 0 < m → m < 2 ^ jobs → excluding m (lowest jobs m) < m
+lowest_out m p h = rest_falls (trailing_lowest jobs m p h)

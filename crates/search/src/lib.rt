@@ -1,23 +1,19 @@
 #![tactic(auto)]
 // The opening search of document 01. Visiting a job leads to its databases, and visiting a database leads to jobs again.
-// Its arrays hold sets of slots. `named` at u: those that name u. `dependencies` at u * Slot::COUNT + w: those that go before w at u.
-// `reached` at u: those reached through u. `found` at u: those with a found dependency to the new job at u.
-// `ahead` at v: the databases of v that no visit of v looks through yet. Once is enough, so no other visit of v does it again.
+mod count;
+
 ghost use Rattle.std.specs.Prelude.{◌≡◌, ◌<◌};
+ghost use Rattle.mask.specs.Member.{holds, excluding};
 ghost use Rattle.search.specs.Limits.{jobs, databases};
 ghost use Rattle.search.specs.Search.{sought};
-ghost use Rattle.search.specs.Visit.{put_ahead, all_ahead, so_far, Ready, Arrived, Standing, JobVisited, DatabaseVisited, Others};
+ghost use Rattle.search.specs.Visit.{put_ahead, all_ahead, turned, due, BeforeJob, JobVisited, BeforeDatabase, DatabaseVisited, Others};
 
-use numbers::{Database, Slot};
+pub use count::count_all;
+use mask::Set;
+use numbers::{Database, STEPS, Slot};
 
-const STEPS: usize = Slot::COUNT * Database::COUNT;
-
-// The limits as a slot's and a database's number have them.
-const SLOTS: u8 = Slot::COUNT as u8;
-
-const DATABASES: u8 = Database::COUNT as u8;
-
-#[derive(Clone, Copy)]
+// By database, the slots with a found dependency to the new job; and the moves. `sought` has them so.
+#[derive(Clone, Copy, Debug, PartialEq, Eq)]
 pub struct Sought {
     pub found: [u32; Database::COUNT],
     pub moves: u32,
@@ -27,138 +23,135 @@ pub struct Sought {
 pub fn search(named: &[u32; Database::COUNT], dependencies: &[u32; STEPS], n: Slot) -> Sought
     ensures { result ≡ sought named.now dependencies.now n.0 }
 {
-    let mut ahead = [0u16; Slot::COUNT];
-    let mut reached = [0u32; Database::COUNT];
-    let mut found = [0u32; Database::COUNT];
-    if n.0 >= SLOTS {
-        return Sought { found, moves: 0 };
-    }
-    put_all_ahead(&mut ahead, named);
-    // The new job is reached through no database.
-    let none = Database(DATABASES);
-    let moves = visit_job(
+    let mut walker = Walker {
         named,
         dependencies,
-        &mut ahead,
-        &mut reached,
-        &mut found,
-        n,
-        n,
-        none,
-        0,
-    );
-    Sought { found, moves }
+        job: n,
+        ahead: [0; Slot::COUNT],
+        reached: [0; Database::COUNT],
+        found: [0; Database::COUNT],
+    };
+    if (n.0 as usize) < Slot::COUNT {
+        walker.put_all_ahead();
+        walker.visit_job(n, None);
+    }
+    Sought {
+        found: walker.found,
+        moves: walker.moves(),
+    }
+}
+
+// What the search works on. The arrays hold sets, of slots but for `ahead`.
+#[derive(Drop)]
+struct Walker<'a> {
+    // At u: the slots that name database u.
+    named: &'a [u32; Database::COUNT],
+    // At u * Slot::COUNT + w: those that go before slot w at u.
+    dependencies: &'a [u32; STEPS],
+    // The slot of the new job.
+    job: Slot,
+    // At v: the databases of slot v that no visit of v looks through yet. Once is enough, so no other visit of v does it again.
+    ahead: [u16; Slot::COUNT],
+    // At u: those reached through u.
+    reached: [u32; Database::COUNT],
+    // At u: those with a found dependency to the new job at u.
+    found: [u32; Database::COUNT],
+}
+
+impl Walker<'_> {
+    // Each database is ahead of the slots that name it.
+    #[tactic(auto, unfolding(crate::specs::Visit::all_ahead, loops::specs::Loop::over))]
+    fn put_all_ahead(&mut self)
+        ensures { self.new ≡ record self.old { ahead = all_ahead self.old.named.now self.old.ahead } }
+    {
+        for (u, slots) in self.named.iter().enumerate() {
+            put_ahead(&mut self.ahead, *slots, u);
+        }
+    }
+
+    // From slot v, reached through database `via`, to the others of those ahead; the new job is reached through none.
+    // They are taken off before the first of them is visited: what comes to v again meanwhile leaves them to this visit.
+    #[cycle(visit_database_visit_job)]
+    fn visit_job(&mut self, v: Slot, via: Option<Database>)
+        requires { BeforeJob self.old v.0 via }
+        ensures { JobVisited self.old v.0 via self.new }
+    {
+        let j = v.0 as usize;
+        let all = self.ahead[j];
+        let taken = without(all, via);
+        self.ahead[j] = all.less(taken);
+        for u in taken.members() {
+            self.visit_database(v, Database(u));
+        }
+    }
+
+    // From database u, come to from slot v which names it, to the other slots that name it. A visit reaches more of them: these are taken off what is left.
+    #[cycle(visit_database_visit_job)]
+    #[tactic(auto, using(crate::proofs::Trying::lowest_out))]
+    fn visit_database(&mut self, v: Slot, u: Database)
+        requires { BeforeDatabase self.old v.0 u.0 }
+        ensures { DatabaseVisited self.old v.0 u.0 self.new }
+    {
+        let k = u.0 as usize;
+        let mut left = others(self.named[k], self.reached[k], v);
+        // The set changes while it is walked, so this is no `for` over its members.
+        while left != 0 {
+            let w = Slot(left.lowest() as u8);
+            left = left.rest();
+            let at = k * Slot::COUNT + w.0 as usize;
+            if has(self.dependencies[at], v) {
+                continue;
+            }
+            if w == self.job {
+                self.found[k] |= 1 << v.0;
+            } else {
+                self.reached[k] |= 1 << w.0;
+                self.visit_job(w, Some(u));
+                left = others(left, self.reached[k], v);
+            }
+        }
+    }
+
+    // A forward move and a return for each slot that is reached, a closing move for each that is found. Counted here, they cost the visits nothing.
+    fn moves(&self) -> u32
+        ensures { result ≡ due self.now }
+    {
+        2 * count_all(&self.reached) + count_all(&self.found)
+    }
 }
 
 // Database u is ahead of each of the slots.
+#[tactic(auto, using(mask::proofs::Walking::left_done), unfolding(crate::specs::Visit::put_ahead))]
 fn put_ahead(ahead: &mut [u16; Slot::COUNT], slots: u32, u: usize)
     requires { u < databases }
     ensures { ahead.new ≡ put_ahead slots u ahead.old }
 {
-    let mut left = slots;
-    while left != 0 {
-        let v = mask::slots::lowest(left) as usize;
-        let before = ahead[v];
-        ahead[v] = before | 1 << u;
-        left = mask::slots::rest(left);
+    for v in slots.members() {
+        ahead[v as usize] |= 1 << u;
     }
 }
 
-// Each database is ahead of the slots that name it.
-fn put_all_ahead(ahead: &mut [u16; Slot::COUNT], named: &[u32; Database::COUNT])
-    ensures { ahead.new ≡ all_ahead named.now ahead.old }
+// The databases of `all` but `via`: a walk doesn't turn round.
+#[tactic(auto, using(mask::proofs::Change::excluding_beyond))]
+fn without(all: u16, via: Option<Database>) -> u16
+    ensures { result ≡ excluding all (turned via) }
 {
-    for u in 0..Database::COUNT {
-        put_ahead(ahead, named[u], u);
-    }
+    via.map_or(all, |u| all.without_member(u.0))
 }
 
-// From slot v, reached through database `via`, to the others of those ahead.
-// They are taken off before the first of them is visited: what comes to v again meanwhile leaves them to this visit.
-#[cycle(visit_database_visit_job)]
-fn visit_job(
-    named: &[u32; Database::COUNT],
-    dependencies: &[u32; STEPS],
-    ahead: &mut [u16; Slot::COUNT],
-    reached: &mut [u32; Database::COUNT],
-    found: &mut [u32; Database::COUNT],
-    n: Slot,
-    v: Slot,
-    via: Database,
-    moves: u32,
-) -> u32
-    requires { (n.0 < jobs) × (v.0 < jobs) × Arrived named.now dependencies.now n.0 v.0 via.0 × Ready named.now dependencies.now n.0 (so_far ahead.old reached.old found.old moves) }
-    ensures { JobVisited named.now dependencies.now n.0 v.0 via.0 (so_far ahead.old reached.old found.old moves) (so_far ahead.new reached.new found.new result) }
+// Whether v is one of the slots. `Set::holds` was tried in its place: it tests v again, and the search of a full graph took a fifth longer.
+fn has(slots: u32, v: Slot) -> bool
+    requires { v.0 < jobs }
+    ensures { result ≡ holds slots v.0 }
 {
-    let j = v.0 as usize;
-    let all = ahead[j];
-    let mut left = mask::databases::without_member(all, via.0);
-    ahead[j] = mask::databases::less(all, left);
-    let mut t = moves;
-    while left != 0 {
-        let u = mask::databases::lowest(left) as u8;
-        t = visit_database(
-            named,
-            dependencies,
-            ahead,
-            reached,
-            found,
-            n,
-            v,
-            Database(u),
-            t,
-        );
-        left = mask::databases::rest(left);
-    }
-    t
+    (slots >> v.0) % 2 == 1
 }
 
 // The slots of `all` but v that are not reached: those that are would be passed over one by one.
+#[tactic(auto, using(crate::proofs::Trying::others_are))]
 fn others(all: u32, reached: u32, v: Slot) -> u32
     requires { v.0 < jobs }
     ensures { Others all reached v.0 result }
 {
     all & !(1 << v.0) & !reached
-}
-
-// From database u, come to from slot v which names it, to the other slots that name it. A visit reaches more of them: these are taken off what is left.
-#[cycle(visit_database_visit_job)]
-fn visit_database(
-    named: &[u32; Database::COUNT],
-    dependencies: &[u32; STEPS],
-    ahead: &mut [u16; Slot::COUNT],
-    reached: &mut [u32; Database::COUNT],
-    found: &mut [u32; Database::COUNT],
-    n: Slot,
-    v: Slot,
-    u: Database,
-    moves: u32,
-) -> u32
-    requires { (n.0 < jobs) × Standing named.now dependencies.now n.0 v.0 u.0 × Ready named.now dependencies.now n.0 (so_far ahead.old reached.old found.old moves) }
-    ensures { DatabaseVisited named.now dependencies.now n.0 v.0 u.0 (so_far ahead.old reached.old found.old moves) (so_far ahead.new reached.new found.new result) }
-{
-    let k = u.0 as usize;
-    let mut t = moves;
-    let mut m = others(named[k], reached[k], v);
-    while m != 0 {
-        let low = mask::slots::lowest(m) as u8;
-        let w = Slot(low);
-        m = mask::slots::rest(m);
-        let at = k * Slot::COUNT + w.0 as usize;
-        if (dependencies[at] >> v.0) % 2 != 1 {
-            if w.0 == n.0 {
-                let x = found[k];
-                if (x >> v.0) % 2 != 1 {
-                    found[k] = x | 1 << v.0;
-                    t = t + 1;
-                }
-            } else {
-                let x = reached[k];
-                reached[k] = x | 1 << w.0;
-                t = visit_job(named, dependencies, ahead, reached, found, n, w, u, t + 1) + 1;
-                m = others(m, reached[k], v);
-            }
-        }
-    }
-    t
 }

@@ -1,18 +1,12 @@
 -- Which arm each call takes: what it answers and leaves, by its refusal and its tests. Assumes nothing.
 use Prim.Native.Nat.{ℕ, suc}
 use mathlib.Core.Bool.{true, false}
-use mathlib.Core.Option.{none, some}
+use Rattle.std.specs.Prelude.{Option, None, Some, Ok, Err}
 use mathlib.Core.Path.{◌≡◌}
 use lib.Dec.{eqb}
+use Rattle.numbers.specs.declared.Ticket.{Ticket}
+use Rattle.refusals.specs.declared.refusal.Refusal.{Refusal}
 use Rattle.coordinator.specs.declared.Coordinator.{Coordinator}
-use Rattle.coordinator.specs.declared.answers.OpenAnswer.{OpenAnswer}
-use Rattle.coordinator.specs.declared.answers.AskAnswer.{AskAnswer}
-use Rattle.coordinator.specs.declared.answers.ConfirmAnswer.{ConfirmAnswer}
-use Rattle.coordinator.specs.declared.answers.CloseAnswer.{CloseAnswer}
-use Rattle.coordinator.specs.declared.answers.AfterOpen.{AfterOpen}
-use Rattle.coordinator.specs.declared.answers.AfterAsk.{AfterAsk}
-use Rattle.coordinator.specs.declared.answers.AfterConfirm.{AfterConfirm}
-use Rattle.coordinator.specs.declared.answers.AfterClose.{AfterClose}
 use Rattle.coordinator.specs.Holder.{holder}
 use Rattle.coordinator.specs.Refusal.{open_refusal, ask_refusal, confirm_refusal, close_refusal}
 use Rattle.coordinator.specs.Change.{mark_asked, mark_confirmed, mark_held}
@@ -20,50 +14,55 @@ use Rattle.coordinator.specs.Release.{may_go, release, may_go_at, may_close, may
 use Rattle.coordinator.specs.Open.{free_slot, accepted, after_open}
 use Rattle.coordinator.specs.Ask.{asked_for, after_ask}
 use Rattle.coordinator.specs.Confirm.{released_one, confirmed_at, after_confirm}
-use Rattle.coordinator.specs.Close.{Closing, no_tickets, close_one, close_held, closing, closed_at, after_close}
+use Rattle.coordinator.specs.Close.{Closing, close_one, close_held, closing, after_closing, closed_at, after_close}
+use Rattle.coordinator.specs.declared.answers.After.{After}
+use Rattle.coordinator.specs.declared.answers.Opened.{Opened}
+use Rattle.coordinator.specs.declared.answers.Asked.{Asked}
+use Rattle.coordinator.specs.declared.answers.Closed.{Closed}
 
 module _ (s : Coordinator) where
   -- open
 
-  pub open_refused : (mask n : ℕ) → open_refusal s mask ≡ some n → ◌≡◌ {A = AfterOpen} (after_open s mask) (record { answer = OpenAnswer.Refused n; state = s })
+  pub open_refused : (mask : ℕ) (r : Refusal) → open_refusal s mask ≡ Some r → ◌≡◌ {A = After Opened} (after_open s mask) (record { answer = Err r; state = s })
   unfolding after_open
-  open_refused mask n e = rw (after_open, e)
+  open_refused mask r e = rw (after_open, e)
 
-  pub open_taken : (mask : ℕ) → open_refusal s mask ≡ none → after_open s mask ≡ accepted s (free_slot s) mask
+  pub open_taken : (mask : ℕ) → open_refusal s mask ≡ None → after_open s mask ≡ accepted s (free_slot s) mask
   unfolding after_open
   open_taken mask e = rw (after_open, e)
 
   -- ask
 
-  pub ask_refused : (t k n : ℕ) → ask_refusal s t k ≡ some n → ◌≡◌ {A = AfterAsk} (after_ask s t k) (record { answer = AskAnswer.Refused n; state = s })
+  pub ask_refused : (t k : ℕ) (r : Refusal) → ask_refusal s t k ≡ Some r → ◌≡◌ {A = After Asked} (after_ask s t k) (record { answer = Err r; state = s })
   unfolding after_ask
-  ask_refused t k n e = rw (after_ask, e)
+  ask_refused t k r e = rw (after_ask, e)
 
-  pub ask_taken : (t k : ℕ) → ask_refusal s t k ≡ none → after_ask s t k ≡ asked_for s (holder s t) k
+  pub ask_taken : (t k : ℕ) → ask_refusal s t k ≡ None → after_ask s t k ≡ asked_for s (holder s t) k
   unfolding after_ask
   ask_taken t k e = rw (after_ask, e)
 
   pub ask_goes : (j k : ℕ) → may_go (mark_asked s j k) j k ≡ true
-      → ◌≡◌ {A = AfterAsk} (asked_for s j k) (record { answer = AskAnswer.Released; state = release (mark_asked s j k) j k })
+      → ◌≡◌ {A = After Asked} (asked_for s j k) (record { answer = Ok Asked.Released; state = release (mark_asked s j k) j k })
   unfolding asked_for
   ask_goes j k e = rw (asked_for, e)
 
-  pub ask_waits : (j k : ℕ) → may_go (mark_asked s j k) j k ≡ false → ◌≡◌ {A = AfterAsk} (asked_for s j k) (record { answer = AskAnswer.Held; state = mark_asked s j k })
+  pub ask_waits : (j k : ℕ) → may_go (mark_asked s j k) j k ≡ false → ◌≡◌ {A = After Asked} (asked_for s j k) (record { answer = Ok Asked.Held; state = mark_asked s j k })
   unfolding asked_for
   ask_waits j k e = rw (asked_for, e)
 
   -- confirm
 
-  pub confirm_refused : (t k n : ℕ) → confirm_refusal s t k ≡ some n → ◌≡◌ {A = AfterConfirm} (after_confirm s t k) (record { answer = ConfirmAnswer.Refused n; state = s })
+  pub confirm_refused : (t k : ℕ) (r : Refusal) → confirm_refusal s t k ≡ Some r
+      → ◌≡◌ {A = After (Option Ticket)} (after_confirm s t k) (record { answer = Err r; state = s })
   unfolding after_confirm
-  confirm_refused t k n e = rw (after_confirm, e)
+  confirm_refused t k r e = rw (after_confirm, e)
 
-  pub confirm_taken : (t k : ℕ) → confirm_refusal s t k ≡ none → after_confirm s t k ≡ confirmed_at s (holder s t) k
+  pub confirm_taken : (t k : ℕ) → confirm_refusal s t k ≡ None → after_confirm s t k ≡ confirmed_at s (holder s t) k
   unfolding after_confirm
   confirm_taken t k e = rw (after_confirm, e)
 
   pub confirm_none : (j k : ℕ) → eqb (may_go_at (mark_confirmed s j k) k) 0 ≡ true
-      → ◌≡◌ {A = AfterConfirm} (confirmed_at s j k) (record { answer = ConfirmAnswer.Nothing; state = mark_confirmed s j k })
+      → ◌≡◌ {A = After (Option Ticket)} (confirmed_at s j k) (record { answer = Ok None; state = mark_confirmed s j k })
   unfolding confirmed_at
   confirm_none j k e = rw (confirmed_at, e)
 
@@ -74,22 +73,21 @@ module _ (s : Coordinator) where
 
   -- close
 
-  pub close_refused : (t n : ℕ) → close_refusal s t ≡ some n
-      → ◌≡◌ {A = AfterClose} (after_close s t) (record { answer = CloseAnswer.Refused n; tickets = no_tickets; state = s })
+  pub close_refused : (t : ℕ) (r : Refusal) → close_refusal s t ≡ Some r → ◌≡◌ {A = After (Option Closed)} (after_close s t) (record { answer = Err r; state = s })
   unfolding after_close
-  close_refused t n e = rw (after_close, e)
+  close_refused t r e = rw (after_close, e)
 
-  pub close_taken : (t : ℕ) → close_refusal s t ≡ none → after_close s t ≡ closed_at s (holder s t)
+  pub close_taken : (t : ℕ) → close_refusal s t ≡ None → after_close s t ≡ closed_at s (holder s t)
   unfolding after_close
   close_taken t e = rw (after_close, e)
 
   pub close_goes : (j : ℕ) → may_close s j ≡ true
-      → ◌≡◌ {A = AfterClose} (closed_at s j) (record { answer = CloseAnswer.Closed (closing s j).count; tickets = (closing s j).tickets; state = (closing s j).state })
+      → ◌≡◌ {A = After (Option Closed)} (closed_at s j) (after_closing (closing s j))
   unfolding closed_at
   close_goes j e = rw (closed_at, e)
 
   pub close_waits : (j : ℕ) → may_close s j ≡ false
-      → ◌≡◌ {A = AfterClose} (closed_at s j) (record { answer = CloseAnswer.Held; tickets = no_tickets; state = mark_held s j })
+      → ◌≡◌ {A = After (Option Closed)} (closed_at s j) (record { answer = Ok None; state = mark_held s j })
   unfolding closed_at
   close_waits j e = rw (closed_at, e)
 

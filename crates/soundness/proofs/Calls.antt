@@ -1,16 +1,13 @@
 -- Every call on a sound state leaves a sound state, refused or not. Assumes nothing.
 use Prim.Native.Nat.{ℕ, zero, suc, ◌^◌, ◌<◌}
-use mathlib.Core.Bool.{Bool, true, false, not, ◌&&◌}
-use mathlib.Core.Option.{Option, none, some}
+use mathlib.Core.Bool.{Bool, true, false}
+use Rattle.std.specs.Prelude.{Option, None, Some}
 use mathlib.Core.Path.{◌≡◌, refl, sym, subst, ◌∙◌}
-use borrow.Author.Tests.{eq-eqb, eqb-false, not-true}
+use borrow.Author.Tests.{eq-eqb, eqb-false}
 use lib.Dec.{eqb}
-use Rattle.loops.proofs.Tests.{both, and_left, and_right, untrue}
+use Rattle.loops.proofs.Tests.{both, untrue}
+use Rattle.refusals.specs.declared.refusal.Refusal.{Refusal}
 use Rattle.coordinator.specs.declared.Coordinator.{Coordinator}
-use Rattle.coordinator.specs.declared.answers.AfterOpen.{AfterOpen}
-use Rattle.coordinator.specs.declared.answers.AfterAsk.{AfterAsk}
-use Rattle.coordinator.specs.declared.answers.AfterConfirm.{AfterConfirm}
-use Rattle.coordinator.specs.declared.answers.AfterClose.{AfterClose}
 use Rattle.coordinator.specs.Limits.{jobs, databases}
 use Rattle.coordinator.specs.Shape.{Shape}
 use Rattle.coordinator.specs.Sound.{Sound}
@@ -24,9 +21,10 @@ use Rattle.coordinator.specs.Ask.{asked_for, after_ask}
 use Rattle.coordinator.specs.Confirm.{released_one, confirmed_at, after_confirm}
 use Rattle.coordinator.specs.Close.{Closing, close_one, close_held, closing, closed_at, after_close}
 use Rattle.coordinator.specs.Call.{Call, open_job, ask_step, confirm_step, close_job, play}
+use Rattle.coordinator.specs.declared.answers.After.{After}
 use Rattle.effects.specs.View.{View, view}
 use Rattle.effects.specs.Effect.{asked_at}
-use Rattle.effects.proofs.Tests.{may_go_at_lem, may_go_at_small, may_close_now_lem, may_close_now_small, first_of_lem}
+use Rattle.effects.proofs.Tests.{first_to_go, first_to_close}
 use Rattle.soundness.specs.Changed.{Changed}
 use Rattle.soundness.specs.Kept.{Kept, MaskFits}
 use Rattle.soundness.proofs.Arms.{open_refused, open_taken, ask_refused, ask_taken, ask_goes, ask_waits, confirm_refused, confirm_taken, confirm_none, confirm_one, close_refused, close_taken, close_goes, close_waits, cascade_none, cascade_one}
@@ -39,17 +37,20 @@ use Rattle.soundness.proofs.Open.{opened_sound}
 kept : {s : Coordinator} {v : View} → Changed s v → Kept s
 kept c = (c.shape, c.sound)
 
+left_kept : {A : Type 0} {x y : After A} → x ≡ y → Kept y.state → Kept x.state
+left_kept {A} e K = subst (λ (z : After A). Kept z.state) (sym e) K
+
 -- open
 
 pub open_kept : (s : Coordinator) → Kept s → (mask : ℕ) → mask < 2 ^ 16 → Kept (after_open s mask).state
 unfolding accepted
 open_kept s (h, S) mask small = by (open_refusal s mask) refl
   where
-    by : (o : Option ℕ) → open_refusal s mask ≡ o → Kept (after_open s mask).state
-    by none e =
+    by : (o : Option Refusal) → open_refusal s mask ≡ o → Kept (after_open s mask).state
+    by None e =
         let a = open_accepted s h mask e in
-        subst (λ (r : AfterOpen). Kept r.state) (sym (open_taken s mask e)) (kept (opened_sound s h S mask small a.some a.room).1)
-    by (some n) e = subst (λ (r : AfterOpen). Kept r.state) (sym (open_refused s mask n e)) (h, S)
+        left_kept (open_taken s mask e) (kept (opened_sound s h S mask small a.some a.room).1)
+    by (Some r) e = left_kept (open_refused s mask r e) (h, S)
 
 -- ask
 
@@ -64,17 +65,17 @@ asked_kept s (h, S) j k slot database n new = by (may_go (mark_asked s j k) j k)
     by true e =
         let asks : asked (mark_asked s j k) j k ≡ true = c.shows.asked j k ∙ rw (eq-eqb j j refl, eq-eqb k k refl) in
         let waits : released (mark_asked s j k) j k ≡ false = c.shows.released j k ∙ untrue (released s j k) (λ r. both (S.released_asked j k r) new) in
-        subst (λ (r : AfterAsk). Kept r.state) (sym (ask_goes s j k e)) (kept (released_sound (mark_asked s j k) c.shape c.sound j k slot database asks waits))
-    by false e = subst (λ (r : AfterAsk). Kept r.state) (sym (ask_waits s j k e)) (kept c)
+        left_kept (ask_goes s j k e) (kept (released_sound (mark_asked s j k) c.shape c.sound j k slot database asks waits))
+    by false e = left_kept (ask_waits s j k e) (kept c)
 
 pub ask_kept : (s : Coordinator) → Kept s → (t k : ℕ) → Kept (after_ask s t k).state
 ask_kept s K t k = by (ask_refusal s t k) refl
   where
-    by : (o : Option ℕ) → ask_refusal s t k ≡ o → Kept (after_ask s t k).state
-    by none e =
+    by : (o : Option Refusal) → ask_refusal s t k ≡ o → Kept (after_ask s t k).state
+    by None e =
         let a = ask_accepted s t k e in
-        subst (λ (r : AfterAsk). Kept r.state) (sym (ask_taken s t k e)) (asked_kept s K (holder s t) k a.holder_of.slot a.database a.named a.unasked)
-    by (some n) e = subst (λ (r : AfterAsk). Kept r.state) (sym (ask_refused s t k n e)) K
+        left_kept (ask_taken s t k e) (asked_kept s K (holder s t) k a.holder_of.slot a.database a.named a.unasked)
+    by (Some r) e = left_kept (ask_refused s t k r e) K
 
 -- confirm
 
@@ -82,10 +83,8 @@ ask_kept s K t k = by (ask_refusal s t k) refl
 one_kept : (s : Coordinator) → Kept s → (k : ℕ) → k < databases → ¬ (may_go_at s k ≡ 0) → Kept (released_one s (first_of s (may_go_at s k)) k).state
 unfolding released_one
 one_kept s (h, S) k database any =
-    let j : ℕ = first_of s (may_go_at s k) in
-    let (l, m) = first_of_lem s (may_go_at s k) (may_go_at_small s k) any in
-    let e = and_left (asked s j k && not (released s j k)) (may_go s j k) (sym (may_go_at_lem s k j l) ∙ m) in
-    kept (released_sound s h S j k l database (and_left (asked s j k) (not (released s j k)) e) (not-true (released s j k) (and_right (asked s j k) (not (released s j k)) e)))
+    let f = first_to_go s k any in
+    kept (released_sound s h S (first_of s (may_go_at s k)) k f.slot database f.asks f.unreleased)
 
 confirmed_kept : (s : Coordinator) → Kept s → (j k : ℕ) → j < jobs → k < databases → released s j k ≡ true → Kept (confirmed_at s j k).state
 confirmed_kept s (h, S) j k slot database r = by (eqb (may_go_at (mark_confirmed s j k) k) 0) refl
@@ -94,17 +93,17 @@ confirmed_kept s (h, S) j k slot database r = by (eqb (may_go_at (mark_confirmed
     K = kept (confirmed_sound s h S j k slot database r)
 
     by : (b : Bool) → eqb (may_go_at (mark_confirmed s j k) k) 0 ≡ b → Kept (confirmed_at s j k).state
-    by true e = subst (λ (r : AfterConfirm). Kept r.state) (sym (confirm_none s j k e)) K
-    by false e = subst (λ (r : AfterConfirm). Kept r.state) (sym (confirm_one s j k e)) (one_kept (mark_confirmed s j k) K k database (eqb-false (may_go_at (mark_confirmed s j k) k) 0 e))
+    by true e = left_kept (confirm_none s j k e) K
+    by false e = left_kept (confirm_one s j k e) (one_kept (mark_confirmed s j k) K k database (eqb-false (may_go_at (mark_confirmed s j k) k) 0 e))
 
 pub confirm_kept : (s : Coordinator) → Kept s → (t k : ℕ) → Kept (after_confirm s t k).state
 confirm_kept s K t k = by (confirm_refusal s t k) refl
   where
-    by : (o : Option ℕ) → confirm_refusal s t k ≡ o → Kept (after_confirm s t k).state
-    by none e =
+    by : (o : Option Refusal) → confirm_refusal s t k ≡ o → Kept (after_confirm s t k).state
+    by None e =
         let a = confirm_accepted s t k e in
-        subst (λ (r : AfterConfirm). Kept r.state) (sym (confirm_taken s t k e)) (confirmed_kept s K (holder s t) k a.holder_of.slot a.database a.is_released)
-    by (some n) e = subst (λ (r : AfterConfirm). Kept r.state) (sym (confirm_refused s t k n e)) K
+        left_kept (confirm_taken s t k e) (confirmed_kept s K (holder s t) k a.holder_of.slot a.database a.is_released)
+    by (Some r) e = left_kept (confirm_refused s t k r e) K
 
 -- close
 
@@ -113,7 +112,7 @@ unfolding close_one
 one_closed c (h, S) j o = kept (removed_sound c.state h S j o)
 
 -- a job whose close is held is open
-held_open : (s : Coordinator) → Sound s → (j : ℕ) → held s j ≡ true → is_open s j ≡ true
+pub held_open : (s : Coordinator) → Sound s → (j : ℕ) → held s j ≡ true → is_open s j ≡ true
 held_open s S j e = by (is_open s j) refl
   where
     by : (b : Bool) → is_open s j ≡ b → is_open s j ≡ true
@@ -122,10 +121,7 @@ held_open s S j e = by (is_open s j) refl
 
 -- the first of the held closes that may go
 pub first_open : (s : Coordinator) → Sound s → ¬ (may_close_now s ≡ 0) → is_open s (first_of s (may_close_now s)) ≡ true
-first_open s S any =
-    let j : ℕ = first_of s (may_close_now s) in
-    let (l, m) = first_of_lem s (may_close_now s) (may_close_now_small s) any in
-    held_open s S j (and_left (held s j) (may_close s j) (sym (may_close_now_lem s j l) ∙ m))
+first_open s S any = held_open s S (first_of s (may_close_now s)) (first_to_close s any).is_held
 
 pub cascade_kept : (left : ℕ) (c : Closing) → Kept c.state → Kept (close_held left c).state
 unfolding close_held
@@ -143,17 +139,17 @@ unfolding closing
 closed_kept s (h, S) j o all = by (may_close s j) refl
   where
     by : (b : Bool) → may_close s j ≡ b → Kept (closed_at s j).state
-    by true e = subst (λ (r : AfterClose). Kept r.state) (sym (close_goes s j e)) (cascade_kept jobs _ (one_closed _ (h, S) j o))
-    by false e = subst (λ (r : AfterClose). Kept r.state) (sym (close_waits s j e)) (kept (held_sound s h S j o all))
+    by true e = left_kept (close_goes s j e) (cascade_kept jobs _ (one_closed _ (h, S) j o))
+    by false e = left_kept (close_waits s j e) (kept (held_sound s h S j o all))
 
 pub close_kept : (s : Coordinator) → Kept s → (t : ℕ) → Kept (after_close s t).state
 close_kept s K t = by (close_refusal s t) refl
   where
-    by : (o : Option ℕ) → close_refusal s t ≡ o → Kept (after_close s t).state
-    by none e =
+    by : (o : Option Refusal) → close_refusal s t ≡ o → Kept (after_close s t).state
+    by None e =
         let a = close_accepted s K.0 t e in
-        subst (λ (r : AfterClose). Kept r.state) (sym (close_taken s t e)) (closed_kept s K (holder s t) a.holder_of.is_open a.all_confirmed)
-    by (some n) e = subst (λ (r : AfterClose). Kept r.state) (sym (close_refused s t n e)) K
+        left_kept (close_taken s t e) (closed_kept s K (holder s t) a.holder_of.is_open a.all_confirmed)
+    by (Some r) e = left_kept (close_refused s t r e) K
 
 -- every call
 

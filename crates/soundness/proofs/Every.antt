@@ -1,8 +1,9 @@
--- Of every state that its type allows, damaged or not: a call that is accepted leaves a sound state, a damaged state is refused with 10, and the test says after a call what it said before. Assumes nothing.
+-- Of every state that its type allows, damaged or not: a damaged state is refused, and the test says after a call what it said before. Assumes nothing.
 use mathlib.Core.Bool.{Bool, true, false}
-use mathlib.Core.Option.{none, some}
+use Rattle.std.specs.Prelude.{Some}
 use mathlib.Core.Path.{◌≡◌, refl, sym, ap, subst, ◌∙◌}
 use Rattle.loops.proofs.Tests.{both, untrue}
+use Rattle.refusals.specs.declared.refusal.Refusal.TheVariants.{Unsound}
 use Rattle.coordinator.specs.declared.Coordinator.{Coordinator}
 use Rattle.coordinator.specs.Shape.{Shape}
 use Rattle.coordinator.specs.Sound.{Sound}
@@ -12,30 +13,19 @@ use Rattle.coordinator.specs.Call.{Call, open_job, ask_step, confirm_step, close
 use Rattle.decision.proofs.Decides.{sound_iff}
 use Rattle.soundness.specs.Kept.{MaskFits}
 use Rattle.soundness.specs.Refused.{refusal_of}
-use Rattle.soundness.proofs.Accepted.{open_accepted, ask_accepted, confirm_accepted, close_accepted}
 use Rattle.soundness.proofs.Calls.{play_sound}
 use Rattle.soundness.proofs.Refused.{refused_play}
 
 module _ (s : Coordinator) (h : Shape s) where
-  accepted_tested : (c : Call) → refusal_of s c ≡ none → sound s ≡ true
-  unfolding refusal_of
-  accepted_tested (open_job mask) e = (open_accepted s h mask e).tested
-  accepted_tested (ask_step t k) e = (ask_accepted s t k e).tested
-  accepted_tested (confirm_step t k) e = (confirm_accepted s t k e).tested
-  accepted_tested (close_job t) e = (close_accepted s h t e).tested
-
-  pub accepted_sound : (c : Call) → MaskFits c → refusal_of s c ≡ none → Sound s × Sound (play s c).state
-  accepted_sound c fits e = let S = (sound_iff s h).0 (accepted_tested c e) in (S, (play_sound s c fits h S).1)
-
-  pub damaged_refused : ¬ Sound s → (c : Call) → refusal_of s c ≡ some 10
+  pub damaged_refused : ¬ Sound s → (c : Call) → refusal_of s c ≡ Some Unsound
   unfolding refusal_of open_refusal ask_refusal confirm_refusal close_refusal first_row slot_refusal step_refusal job_refusal
-  damaged_refused damaged c = ten c (untrue (sound s) (λ e. damaged ((sound_iff s h).0 e)))
+  damaged_refused damaged c = refuses c (untrue (sound s) (λ e. damaged ((sound_iff s h).0 e)))
     where
-      ten : (c : Call) → sound s ≡ false → refusal_of s c ≡ some 10
-      ten (open_job mask) e = rw (refusal_of, open_refusal, first_row, e)
-      ten (ask_step t k) e = rw (refusal_of, ask_refusal, first_row, e)
-      ten (confirm_step t k) e = rw (refusal_of, confirm_refusal, first_row, e)
-      ten (close_job t) e = rw (refusal_of, close_refusal, first_row, e)
+      refuses : (c : Call) → sound s ≡ false → refusal_of s c ≡ Some Unsound
+      refuses (open_job mask) e = rw (refusal_of, open_refusal, first_row, e)
+      refuses (ask_step t k) e = rw (refusal_of, ask_refusal, first_row, e)
+      refuses (confirm_step t k) e = rw (refusal_of, confirm_refusal, first_row, e)
+      refuses (close_job t) e = rw (refusal_of, close_refusal, first_row, e)
 
   -- so that calls one after another need one test
   pub test_stays : (c : Call) → MaskFits c → Shape (play s c).state × (sound (play s c).state ≡ sound s)
@@ -46,5 +36,5 @@ module _ (s : Coordinator) (h : Shape s) where
           let k = play_sound s c fits h ((sound_iff s h).0 e) in
           (k.0, (sound_iff (play s c).state k.0).1 k.1 ∙ sym e)
       by false e =
-          let r : (play s c).state ≡ s = ap (λ (p : Played). p.state) (refused_play s c 10 (damaged_refused (λ S. both ((sound_iff s h).1 S) e) c)) in
+          let r : (play s c).state ≡ s = ap (λ (p : Played). p.state) (refused_play s c Unsound (damaged_refused (λ S. both ((sound_iff s h).1 S) e) c)) in
           (subst Shape (sym r) h, ap sound r)

@@ -1,25 +1,27 @@
--- A close that closed makes room: refusal 2 does not stay. Assumes nothing.
+-- A close that closed makes room: an opening then finds a slot. Assumes nothing.
 use Prim.Native.Nat.{ℕ, zero, suc, ◌<◌}
 use native.Mathlib.Omega.{arith}
-use mathlib.Core.Bool.{Bool, true, false, not}
-use mathlib.Core.List.{List, [], ◌∷◌}
-use mathlib.Core.Option.{Option, none, some}
+use mathlib.Core.Bool.{Bool, true, false}
+use mathlib.Core.List.{List}
+use Rattle.std.specs.Prelude.{Option, None, Some, Ok}
 use mathlib.Core.Path.{◌≡◌, refl, sym, ap, subst, ◌∙◌}
 use borrow.Author.Tests.{eqb-true, eqb-false}
 use lib.Dec.{eqb}
+use Rattle.refusals.specs.declared.refusal.Refusal.{Refusal}
+use Rattle.refusals.specs.declared.refusal.Refusal.TheVariants.{Full}
 use Rattle.coordinator.specs.declared.Coordinator.{Coordinator}
-use Rattle.coordinator.specs.declared.answers.AfterClose.{AfterClose}
-use Rattle.coordinator.specs.declared.answers.CloseAnswer.{CloseAnswer}
 use Rattle.coordinator.specs.Limits.{jobs}
 use Rattle.coordinator.specs.Shape.{Shape}
 use Rattle.coordinator.specs.Sound.{Sound}
 use Rattle.coordinator.specs.Views.{is_open, open_count}
 use Rattle.coordinator.specs.Holder.{holder}
-use Rattle.coordinator.specs.Refusal.{Row, open_refusal, close_refusal, slot_refusal}
+use Rattle.coordinator.specs.Refusal.{Row, open_refusal, close_refusal, slot_refusal, slot_rows}
 use Rattle.coordinator.specs.Test.{sound}
 use Rattle.coordinator.specs.Change.{removed}
 use Rattle.coordinator.specs.Release.{may_close, may_close_now, first_of}
 use Rattle.coordinator.specs.Close.{Closing, close_one, close_held, closing, closed_at, after_close}
+use Rattle.coordinator.specs.declared.answers.After.{After}
+use Rattle.coordinator.specs.declared.answers.Closed.{Closed}
 use Rattle.effects.proofs.Bounds.{count_le}
 use Rattle.soundness.specs.Kept.{Kept}
 use Rattle.soundness.specs.Refused.{row}
@@ -55,49 +57,43 @@ cascade_room (suc left) c K room = by (eqb (may_close_now c.state) 0) refl (casc
 closed_room : (s : Coordinator) → Kept s → (j : ℕ) → is_open s j ≡ true → may_close s j ≡ true → open_count (closed_at s j).state < jobs
 unfolding closing
 closed_room s K j o e =
-    subst (λ (r : AfterClose). open_count r.state < jobs) (sym (close_goes s j e)) (cascade_room jobs _ (one_closed _ K j o) (one_room _ K j o))
+    subst (λ (a : After (Option Closed)). open_count a.state < jobs) (sym (close_goes s j e)) (cascade_room jobs _ (one_closed _ K j o) (one_room _ K j o))
 
-pub close_room : (s : Coordinator) → Shape s → Sound s → (t : ℕ) → close_refusal s t ≡ none → may_close s (holder s t) ≡ true → open_count (after_close s t).state < jobs
+pub close_room : (s : Coordinator) → Shape s → Sound s → (t : ℕ) → close_refusal s t ≡ None → may_close s (holder s t) ≡ true → open_count (after_close s t).state < jobs
 close_room s h S t e m =
-    subst (λ (r : AfterClose). open_count r.state < jobs) (sym (close_taken s t e)) (closed_room s (h, S) (holder s t) (close_accepted s h t e).holder_of.is_open m)
+    subst (λ (a : After (Option Closed)). open_count a.state < jobs) (sym (close_taken s t e)) (closed_room s (h, S) (holder s t) (close_accepted s h t e).holder_of.is_open m)
 
 -- an answer that jobs were closed tells that the close was not refused and not held
-pub closed_went : (s : Coordinator) (t n : ℕ) → (after_close s t).answer ≡ CloseAnswer.Closed n → (close_refusal s t ≡ none) × (may_close s (holder s t) ≡ true)
-closed_went s t n e = by (close_refusal s t) refl
+pub closed_went : (s : Coordinator) (t : ℕ) (c : Closed) → (after_close s t).answer ≡ Ok (Some c) → (close_refusal s t ≡ None) × (may_close s (holder s t) ≡ true)
+closed_went s t c e = by (close_refusal s t) refl
   where
-    went : close_refusal s t ≡ none → (b : Bool) → may_close s (holder s t) ≡ b → (close_refusal s t ≡ none) × (may_close s (holder s t) ≡ true)
+    answered : {x : After (Option Closed)} → after_close s t ≡ x → x.answer ≡ Ok (Some c)
+    answered p = sym (ap (λ (a : After (Option Closed)). a.answer) p) ∙ e
+
+    went : close_refusal s t ≡ None → (b : Bool) → may_close s (holder s t) ≡ b → (close_refusal s t ≡ None) × (may_close s (holder s t) ≡ true)
     went p true q = (p, q)
-    went p false q =
-        let held : CloseAnswer.Held ≡ CloseAnswer.Closed n = sym (ap (λ (r : AfterClose). r.answer) (close_taken s t p ∙ close_waits s (holder s t) q)) ∙ e in
-        let z : ◌≡◌ {A = ℕ} 0 1 = cc in
-        absurd (omega arith)
+    went p false q = let held = answered (close_taken s t p ∙ close_waits s (holder s t) q) in absurd (cc)
 
-    by : (o : Option ℕ) → close_refusal s t ≡ o → (close_refusal s t ≡ none) × (may_close s (holder s t) ≡ true)
-    by none p = went p (may_close s (holder s t)) refl
-    by (some m) p =
-        let told : CloseAnswer.Refused m ≡ CloseAnswer.Closed n = sym (ap (λ (r : AfterClose). r.answer) (close_refused s t m p)) ∙ e in
-        let z : ◌≡◌ {A = ℕ} 0 1 = cc in
-        absurd (omega arith)
+    by : (o : Option Refusal) → close_refusal s t ≡ o → (close_refusal s t ≡ None) × (may_close s (holder s t) ≡ true)
+    by None p = went p (may_close s (holder s t)) refl
+    by (Some r) p = let told = answered (close_refused s t r p) in absurd (cc)
 
--- refusal 2 tells that every slot is taken
-two_full : (s : Coordinator) (mask : ℕ) → open_refusal s mask ≡ some 2 → open_count s ≡ jobs
+-- the refusal for want of room tells that every slot is taken
+full : (s : Coordinator) (mask : ℕ) → open_refusal s mask ≡ Some Full → open_count s ≡ jobs
 unfolding open_refusal slot_refusal
-two_full s mask e = let f = first_applies _ 2 e in by f.place f.inside f.number f.applies
+full s mask e = let f = first_applies _ Full e in by f.place f.inside f.refusal f.applies
   where
     table : List Row
-    table =
-        record { applies = not (sound s); number = 10 }
-        ∷ record { applies = eqb mask 0; number = 1 }
-        ∷ record { applies = eqb (open_count s) jobs; number = 2 }
-        ∷ []
+    table = slot_rows (sound s) mask (open_count s)
 
-    by : (i : ℕ) → i < 3 → (row table i).number ≡ 2 → (row table i).applies ≡ true → open_count s ≡ jobs
-    by zero l n a = absurd (omega arith)
-    by (suc zero) l n a = absurd (omega arith)
-    by (suc (suc zero)) l n a = eqb-true (open_count s) jobs a
-    by (suc (suc (suc i))) l n a = absurd (omega arith)
+    by : (i : ℕ) → i < 3 → (row table i).refusal ≡ Full → (row table i).applies ≡ true → open_count s ≡ jobs
+    by zero l q a = absurd (cc)
+    by (suc zero) l q a = absurd (cc)
+    by (suc (suc zero)) l q a = eqb-true (open_count s) jobs a
+    by (suc (suc (suc i))) l q a = absurd (omega arith)
 
-pub room_after_close : (s : Coordinator) → Shape s → Sound s → (t n mask : ℕ) → (after_close s t).answer ≡ CloseAnswer.Closed n → ¬ (open_refusal (after_close s t).state mask ≡ some 2)
-room_after_close s h S t n mask e two =
-    let (p, m) = closed_went s t n e in
-    omega (arith, close_room s h S t p m, two_full (after_close s t).state mask two)
+pub room_after_close : (s : Coordinator) → Shape s → Sound s → (t mask : ℕ) (c : Closed) → (after_close s t).answer ≡ Ok (Some c)
+    → ¬ (open_refusal (after_close s t).state mask ≡ Some Full)
+room_after_close s h S t mask c e f =
+    let (p, m) = closed_went s t c e in
+    omega (arith, close_room s h S t p m, full (after_close s t).state mask f)

@@ -1,27 +1,23 @@
 -- Each open slot has a ticket of its own: the definition's test, slot by slot, and the code's, which looks closely only where a ticket may have come before. Assumes nothing.
-use Prim.Native.Nat.{ℕ, ◌%◌, ◌*◌, ◌^◌, ◌<◌}
-use native.Mathlib.Omega.{arith}
+use Prim.Native.Nat.{ℕ, ◌-◌, ◌%◌, ◌*◌, ◌^◌, ◌<◌}
 use native.Mathlib.Nat.{lt_of_le_of_lt, mod-lt}
 use mathlib.Core.Bool.{Bool, true, false, not, ◌&&◌, ◌||◌}
 use mathlib.Core.List.{List}
 use mathlib.Core.Logic.{◌⊎◌, inl, inr, ◌↔◌}
 use mathlib.Core.Path.{◌≡◌, refl, sym, ap, ◌∙◌}
 use borrow.Author.Tests.{eq-eqb, ne_eqb, eqb-true}
-use lib.Bits.{bit_and, bit_or, and_le_l}
+use lib.Bits.{bit_and, bit_or, or_lt, and_le_l}
 use lib.Dec.{eqb, lit<}
-use lib.Pow.{pow-lt}
+use lib.Pow.{pow-lt, ones_lt}
 use Rattle.loops.specs.Loop.{every}
-use Rattle.loops.proofs.Tests.{both, and_left, and_right, and_both, or_cases, or_right, or_false, same_test, untrue}
-use Rattle.loops.proofs.Turns.{every_of, every_same, every_both}
+use Rattle.loops.proofs.Tests.{both, and_left, and_right, and_true, and_both, or_cases, or_right, or_false, same_test, untrue}
+use Rattle.loops.proofs.Turns.{every_at, every_of, every_same, every_both, every_fails}
 use Rattle.mask.specs.Lowest.{Lowest}
-use Rattle.mask.specs.Member.{holds, excluding, lowest}
-use Rattle.mask.specs.Members.{union_of}
-use Rattle.mask.proofs.Equal.{same_members, below_iff}
+use Rattle.mask.specs.Member.{holds, excluding}
+use Rattle.mask.proofs.Equal.{same_members}
 use Rattle.mask.proofs.Gather.{holds_gather, gathered_lt}
-use Rattle.mask.proofs.Holds.{holds_none, holds_one, holds_or, holds_and, holds_excluding, holds_below}
-use Rattle.mask.proofs.Lowest.{trailing_lowest, lowest_holds}
-use Rattle.mask.proofs.Union.{union_empty}
-use Rattle.mask.proofs.Walking.{rest_falls}
+use Rattle.mask.proofs.Holds.{holds_none, holds_one, holds_or, holds_and, holds_excluding, holds_below, holds_all}
+use Rattle.mask.proofs.Lowest.{lowest_holds}
 use Rattle.mask.proofs.Words.{one_shl}
 use Rattle.tables.specs.Limits.{jobs}
 use Rattle.tables.specs.Tables.{entry, sharers_in, holders_in}
@@ -29,10 +25,6 @@ use Rattle.tables.specs.Test.{ticket_sound}
 use Rattle.tables.specs.Parts.{free_ticket, no_ticket, own_ticket, new_ticket}
 
 -- in two tests
-
-and_yes : (b : Bool) → b && true ≡ b
-and_yes true = refl
-and_yes false = refl
 
 ticket_at_lem : (tickets : List ℕ) (slots j : ℕ) → no_ticket tickets slots j && own_ticket tickets slots j ≡ ticket_sound tickets slots j
 unfolding no_ticket free_ticket own_ticket ticket_sound holders_in
@@ -42,9 +34,9 @@ ticket_at_lem tickets slots j = by (holds slots j)
         → eqb (elim b [ true ↦ 0 | false ↦ entry tickets j ]) 0 && (not b || eqb (bit_and (sharers_in tickets (entry tickets j)) slots) (2 ^ j))
         ≡ elim b [ true ↦ eqb (bit_and (sharers_in tickets (entry tickets j)) slots) (2 ^ j) | false ↦ eqb (entry tickets j) 0 ]
     by true = refl
-    by false = and_yes (eqb (entry tickets j) 0)
+    by false = and_true (eqb (entry tickets j) 0)
 
-pub tickets_are : (tickets : List ℕ) (slots : ℕ)
+tickets_are : (tickets : List ℕ) (slots : ℕ)
     → every jobs (no_ticket tickets slots) && every jobs (own_ticket tickets slots) ≡ every jobs (ticket_sound tickets slots)
 tickets_are tickets slots = sym (every_both jobs (no_ticket tickets slots) (own_ticket tickets slots)) ∙ every_same jobs _ _ (λ j l. ticket_at_lem tickets slots j)
 
@@ -54,11 +46,6 @@ free_fail tickets slots e = ap (λ (b : Bool). b && every jobs (own_ticket ticke
 pub free_hold : (tickets : List ℕ) (slots : ℕ) → every jobs (no_ticket tickets slots) ≡ true
     → every jobs (own_ticket tickets slots) ≡ every jobs (ticket_sound tickets slots)
 free_hold tickets slots e = ap (λ (b : Bool). b && every jobs (own_ticket tickets slots)) (sym e) ∙ tickets_are tickets slots
-
--- the free slots' tickets, gathered
-pub free_are : (tickets : List ℕ) (slots : ℕ) → eqb (union_of jobs (free_ticket tickets slots)) 0 ≡ every jobs (no_ticket tickets slots)
-unfolding no_ticket
-free_are tickets slots = union_empty (free_ticket tickets slots) jobs
 
 -- only slot j holds its ticket
 
@@ -71,6 +58,28 @@ module _ (tickets : List ℕ) (slots : ℕ) where
   pub holders_lt : (t : ℕ) → holders_in tickets slots t < 2 ^ jobs
   unfolding holders_in sharers_in
   holders_lt t = lt_of_le_of_lt (and_le_l (sharers_in tickets t) slots) (gathered_lt (λ j. eqb (entry tickets j) t) jobs)
+
+  -- no ticket is the ticket 0: each slot is open or has that
+  without : (j : ℕ) → j < jobs → holds (bit_or slots (sharers_in tickets 0)) j ≡ no_ticket tickets slots j
+  unfolding sharers_in no_ticket free_ticket
+  without j l =
+      holds_or slots (sharers_in tickets 0) j
+      ∙ ap (λ (b : Bool). holds slots j || b) (holds_gather (λ j. eqb (entry tickets j) 0) jobs j l)
+      ∙ by (holds slots j)
+    where
+      by : (b : Bool) → b || eqb (entry tickets j) 0 ≡ eqb (elim b [ true ↦ 0 | false ↦ entry tickets j ]) 0
+      by true = refl
+      by false = refl
+
+  pub free_are : slots < 2 ^ jobs → eqb (bit_or slots (sharers_in tickets 0)) (2 ^ jobs - 1) ≡ every jobs (no_ticket tickets slots)
+  unfolding sharers_in
+  free_are small =
+      same_test _ _
+      (λ e. every_of jobs _ (λ j l. sym (without j l) ∙ ap (λ (m : ℕ). holds m j) (eqb-true _ _ e) ∙ holds_all jobs j l))
+      (λ e.
+      eq-eqb _ _
+      (same_members jobs _ _ (or_lt jobs slots (sharers_in tickets 0) small (gathered_lt (λ j. eqb (entry tickets j) 0) jobs)) (ones_lt jobs)
+      (λ j l. without j l ∙ every_at jobs _ e j l ∙ sym (holds_all jobs j l))))
 
   module _ (small : slots < 2 ^ jobs) (j : ℕ) (o : holds slots j ≡ true) where
     abbrev Only : Type 0
@@ -131,9 +140,6 @@ module _ (tickets : List ℕ) (slots : ℕ) where
 
   module _ (small : slots < 2 ^ jobs) where
     module _ (seen m w : ℕ) (met : Met seen m) where
-      pub met_lowest : ¬ (m ≡ 0) → w ≡ lowest jobs m → Lowest jobs m w
-      met_lowest ne e = rw e (trailing_lowest jobs m (omega arith) ((below_iff jobs m).1 (λ j p. holds_below jobs slots j small (met.among j p))))
-
       module _ (l : Lowest jobs m w) (new : new_ticket tickets slots seen w ≡ true) where
         -- none of those met has the ticket of w
         apart : (a : ℕ) → holds slots a ≡ true → holds m a ≡ false → entry tickets a ≡ entry tickets w → a ≡ w
@@ -183,16 +189,12 @@ module _ (tickets : List ℕ) (slots : ℕ) where
             pair a b p q t (inr e) (inl f) = apart a p e (t ∙ ap (λ (i : ℕ). entry tickets i) f) ∙ sym f
             pair a b p q t (inr e) (inr f) = met.differ a b p e q f t
 
-      pub met_own : (ne : ¬ (m ≡ 0)) (e : w ≡ lowest jobs m) → new_ticket tickets slots seen w ≡ false → own_ticket tickets slots w ≡ false
-      met_own ne e f = not_own seen w (met.among w (lowest_holds (met_lowest ne e))) f
+      pub met_own : Lowest jobs m w → false ≡ new_ticket tickets slots seen w → false ≡ every jobs (own_ticket tickets slots)
+      met_own l e = every_fails _ jobs _ l.within (not_own seen w (met.among w (lowest_holds l)) (sym e))
 
-      pub met_again : (k : ℕ) (ne : ¬ (m ≡ 0)) (e : w ≡ lowest jobs m) → new_ticket tickets slots seen w ≡ true → k ≡ excluding m (lowest jobs m)
+      pub met_again : (k : ℕ) → Lowest jobs m w → true ≡ new_ticket tickets slots seen w → k ≡ excluding m w
           → Met (bit_or seen (1 * 2 ^ (entry tickets w % 64) % 2 ^ 64)) k
-      met_again k ne e new p =
-          rw (one_shl 64 (entry tickets w % 64) (mod-lt (entry tickets w) (lit< tt)), p, ← e) (met_turn (met_lowest ne e) new)
-
-      pub met_falls : (k : ℕ) (ne : ¬ (m ≡ 0)) (e : w ≡ lowest jobs m) → k ≡ excluding m (lowest jobs m) → k < m
-      met_falls k ne e p = rw (p, ← e) (rest_falls (met_lowest ne e))
+      met_again k l new p = rw (one_shl 64 (entry tickets w % 64) (mod-lt (entry tickets w) (lit< tt)), p) (met_turn l (sym new))
 
     pub met_all : (seen m : ℕ) → m ≡ 0 → Met seen m → true ≡ every jobs (own_ticket tickets slots)
     met_all seen m z met = sym (every_of jobs _ (λ j l. at j (holds slots j) refl))
@@ -202,3 +204,10 @@ module _ (tickets : List ℕ) (slots : ℕ) where
 
         at : (j : ℕ) (b : Bool) → holds slots j ≡ b → own_ticket tickets slots j ≡ true
         at j b e = own_at j b e (λ o. (only_iff small j (e ∙ o)).1 (λ a p q. met.differ a j p (none a) (e ∙ o) (none j) q))
+
+-- for the code: the two tests, whether a ticket is new, and the walk over the open slots
+pub ruleset two_tests = (free_fail, free_hold)
+
+pub ruleset new_or_not = (new_unseen, new_seen)
+
+pub ruleset walk = (met_none, met_own, met_again, met_all)

@@ -1,22 +1,25 @@
 -- At a quiet database nothing may go before anything, and nothing has to: its rows are sound where they are empty. Assumes nothing.
-use Prim.Native.Nat.{ℕ, ◌+◌, ◌*◌}
+use Prim.Native.Nat.{ℕ, ◌^◌, ◌<◌}
 use mathlib.Core.Bool.{Bool, true, false, ◌||◌}
 use mathlib.Core.List.{List}
 use mathlib.Core.Logic.{◌⊎◌, inl, inr}
 use mathlib.Core.Path.{◌≡◌, refl, sym, ap, ◌∙◌}
-use borrow.Author.Tests.{ne_eqb, eqb-true}
-use lib.Bits.{bit_or, or_zero_r}
+use native.Mathlib.Omega.{arith}
+use borrow.Author.Tests.{eqb-true}
+use lib.Bits.{or_zero_r, and_zero_r}
 use lib.Dec.{eqb}
-use lib.ListN.{drop}
+use lib.Pow.{pow_pos}
 use Rattle.loops.proofs.Tests.{both, and_left, and_right, or_cases}
-use Rattle.loops.proofs.Turns.{over_same}
+use Rattle.loops.proofs.Turns.{every_same}
 use Rattle.mask.specs.Member.{holds, excluding, less, lowest}
 use Rattle.mask.specs.Members.{union_of}
 use Rattle.mask.proofs.Holds.{holds_none, holds_excluding}
+use Rattle.mask.proofs.Union.{union_empty}
+use Rattle.mask.proofs.Words.{and_not}
 use Rattle.tables.specs.Limits.{jobs}
 use Rattle.tables.specs.Tables.{entry}
 use Rattle.tables.specs.Test.{partners, pressing, rows_sound}
-use Rattle.tables.specs.Parts.{row_wrong, quiet, rows_empty}
+use Rattle.tables.specs.Parts.{row_wrong, quiet}
 use Rattle.tables.proofs.Testing.{rows_are}
 
 -- the only member of a set whose rest is empty
@@ -44,6 +47,9 @@ no_pressing waiting under b (inr e) = by (holds waiting b)
     by true = e
     by false = refl
 
+less_none : (n m : ℕ) → m < 2 ^ n → less n m 0 ≡ m
+less_none n m h = and_not n m 0 h (pow_pos n) ∙ omega (arith, and_zero_r m)
+
 row_quiet : (named waiting under b into : ℕ) → quiet named waiting under ≡ true → row_wrong named waiting under b into ≡ less jobs into 0
 unfolding quiet row_wrong
 row_quiet named waiting under b into q =
@@ -54,22 +60,10 @@ row_quiet named waiting under b into q =
     calm (inl e) = inl (eqb-true waiting 0 e)
     calm (inr e) = inr (eqb-true under 0 e)
 
-pub rows_quiet : (dependencies : List ℕ) (k named waiting under : ℕ) → quiet named waiting under ≡ true
-    → rows_empty dependencies k ≡ rows_sound (drop (k * jobs) dependencies) named waiting under
-unfolding rows_empty union_of
-rows_quiet dependencies k named waiting under q =
-    ap (λ (m : ℕ). eqb m 0) (over_same jobs _ _ 0 (λ b m l. ap (bit_or m) (sym (row_quiet named waiting under b (entry dependencies (k * jobs + b)) q))))
-    ∙ rows_are dependencies k named waiting under
-
--- as the code tests it
-pub not_quiet : (named waiting under r : ℕ) → r ≡ excluding named (lowest jobs named) → ¬ (r ≡ 0) → false ≡ quiet named waiting under
-unfolding quiet
-not_quiet named waiting under r e ne = rw (← e, ne_eqb r 0 ne)
-
-pub quiet_nobody : (named waiting under r : ℕ) → r ≡ excluding named (lowest jobs named) → r ≡ 0 → waiting ≡ 0 → true ≡ quiet named waiting under
-unfolding quiet
-quiet_nobody named waiting under r e z w = rw (← e, z, w)
-
-pub quiet_under : (named waiting under r : ℕ) → r ≡ excluding named (lowest jobs named) → r ≡ 0 → ¬ (waiting ≡ 0) → eqb under 0 ≡ quiet named waiting under
-unfolding quiet
-quiet_under named waiting under r e z w = rw (← e, z, ne_eqb waiting 0 w)
+pub rows_quiet : (rows : List ℕ) (named waiting under : ℕ) → ((b : ℕ) → entry rows b < 2 ^ jobs) → quiet named waiting under ≡ true
+    → eqb (union_of jobs (entry rows)) 0 ≡ rows_sound rows named waiting under
+rows_quiet rows named waiting under small q =
+    union_empty (entry rows) jobs
+    ∙ every_same jobs _ _ (λ b l. ap (λ (m : ℕ). eqb m 0) (sym (row_quiet named waiting under b (entry rows b) q ∙ less_none jobs (entry rows b) (small b))))
+    ∙ sym (union_empty (λ b. row_wrong named waiting under b (entry rows b)) jobs)
+    ∙ rows_are rows named waiting under

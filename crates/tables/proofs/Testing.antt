@@ -1,25 +1,26 @@
 -- The test for soundness, as the code makes it over lent arrays, is the definition's. Assumes nothing.
-use Prim.Native.Nat.{ℕ, ◌+◌, ◌*◌, ◌%◌, ◌^◌, ◌<◌}
+use Prim.Native.Nat.{ℕ, ◌+◌, ◌-◌, ◌*◌, ◌%◌, ◌^◌, ◌<◌, ◌≤◌}
+use native.Mathlib.Nat.{le_antisymm}
 use native.Mathlib.Omega.{arith}
 use mathlib.Core.Bool.{Bool, true, false, ◌&&◌}
 use mathlib.Core.List.{List}
 use mathlib.Core.Path.{◌≡◌, refl, sym, ap, ◌∙◌}
-use borrow.Author.Tests.{ltb-true, ltb-false, eqb-true, ne_eqb}
+use borrow.Author.Tests.{ltb-true, ltb-false, eqb-true}
 use lib.Bits.{bit_and, bit_or}
 use lib.Dec.{eqb, ltb}
-use lib.ListN.{drop}
-use lib.Seq.{get_or-drop}
+use lib.ListN.{take}
+use Rattle.std.proofs.lemmas.List.{get_or-take}
 use Rattle.loops.specs.Loop.{every}
 use Rattle.loops.proofs.Tests.{and_left}
-use Rattle.loops.proofs.Turns.{over_none, over_more, every_same}
-use Rattle.mask.specs.Member.{holds, less, within, size}
+use Rattle.loops.proofs.Turns.{over_none, over_more, every_none, every_on, every_fails, every_same}
+use Rattle.mask.specs.Member.{holds, excluding, less, size}
 use Rattle.mask.specs.Members.{union_of}
 use Rattle.mask.proofs.Holds.{holds_beyond}
-use Rattle.mask.proofs.Words.{or_shl}
+use Rattle.mask.proofs.Words.{or_shl, meets_shl, misses_shl, and_not_shl}
 use Rattle.mask.proofs.Union.{or_empty, union_empty}
-use Rattle.tables.specs.Limits.{jobs, databases}
-use Rattle.tables.specs.Tables.{entry, open_in}
-use Rattle.tables.specs.Test.{ticket_sound, listed, place_sound, marks_sound, partners, pressing, row_sound, rows_sound, steps_sound, database_sound, sound_in}
+use Rattle.tables.specs.Limits.{jobs}
+use Rattle.tables.specs.Tables.{entry}
+use Rattle.tables.specs.Test.{listed, place_sound, marks_sound, partners, pressing, row_sound, rows_sound, steps_sound}
 use Rattle.tables.specs.Parts.{place_in, row_wrong}
 
 -- the opening order
@@ -45,10 +46,10 @@ place_below left n i o = by (ltb i n)
     by true e = ltb-true o jobs (and_left (ltb o jobs) (holds left o) e)
     by false e = omega (arith, eqb-true o 0 e)
 
-pub place_at : (order : List ℕ) (slots i m n : ℕ) → m ≡ listed order i → n ≡ size jobs slots
-    → place_in (less jobs slots m) n i (entry order i) ≡ place_sound order slots i
+pub place_at : (order : List ℕ) (slots i left m n : ℕ) → left ≡ less jobs slots m → m ≡ listed order i → n ≡ size jobs slots
+    → place_in left n i (entry order i) ≡ place_sound order slots i
 unfolding place_in place_sound
-place_at order slots i m n p q = rw (p, q)
+place_at order slots i left m n l p q = rw (l, p, q)
 
 pub listed_none : (order : List ℕ) → 0 ≡ listed order 0
 unfolding listed
@@ -59,6 +60,15 @@ pub listed_more : (order : List ℕ) (i m : ℕ) → entry order i < jobs → m 
 unfolding listed
 listed_more order i m l p = or_shl 32 m (entry order i) l ∙ over_more _ _ _ p
 
+pub place_fails : (order : List ℕ) (slots i left m n : ℕ) → left ≡ less jobs slots m → m ≡ listed order i → n ≡ size jobs slots → i < jobs
+    → place_in left n i (entry order i) ≡ false → false ≡ every jobs (place_sound order slots)
+place_fails order slots i left m n l p q below e = every_fails _ jobs i below (sym (place_at order slots i left m n l p q) ∙ e)
+
+-- for the code: one place, and the loop over them
+pub ruleset one_place = (place_open, place_end)
+
+pub ruleset places = (place_at, place_below, place_fails, listed_none, listed_more, every_none, every_on)
+
 -- the steps at one database
 
 pub marks_are : (named asked released confirmed held : ℕ)
@@ -67,58 +77,48 @@ pub marks_are : (named asked released confirmed held : ℕ)
 unfolding marks_sound
 marks_are named asked released confirmed held = rw (or_empty, or_empty, or_empty)
 
+pub without_slot : (m b : ℕ) → m < 2 ^ 32 → b < 32 → bit_and m (4294967295 - 1 * 2 ^ b % 4294967296) ≡ excluding m b
+without_slot m b h l = and_not_shl 32 m b h l
+
+-- for the code: slot b as a set
+pub ruleset shifts = (meets_shl, misses_shl, without_slot)
+
 row_is : (named waiting under b into : ℕ) → eqb (row_wrong named waiting under b into) 0 ≡ row_sound named waiting under b into
 unfolding row_wrong row_sound
 row_is named waiting under b into = or_empty (less jobs into (partners named b)) (less jobs (pressing waiting under b) into)
 
-pub rows_are : (dependencies : List ℕ) (k named waiting under : ℕ)
-    → eqb (union_of jobs (λ b. row_wrong named waiting under b (entry dependencies (k * jobs + b)))) 0 ≡ rows_sound (drop (k * jobs) dependencies) named waiting under
+pub rows_are : (rows : List ℕ) (named waiting under : ℕ)
+    → eqb (union_of jobs (λ b. row_wrong named waiting under b (entry rows b))) 0 ≡ rows_sound rows named waiting under
 unfolding rows_sound
-rows_are dependencies k named waiting under =
-    union_empty (λ b. row_wrong named waiting under b (entry dependencies (k * jobs + b))) jobs
-    ∙ every_same jobs _ _ (λ b l. row_is named waiting under b (entry dependencies (k * jobs + b)) ∙ ap (row_sound named waiting under b) (sym (get_or-drop (k * jobs) dependencies b 0)))
+rows_are rows named waiting under =
+    union_empty (λ b. row_wrong named waiting under b (entry rows b)) jobs
+    ∙ every_same jobs _ _ (λ b l. row_is named waiting under b (entry rows b))
 
-pub marks_fail : (named asked released confirmed held : ℕ) (rows : List ℕ) → marks_sound named asked released confirmed held ≡ false
-    → false ≡ steps_sound named asked released confirmed held rows
+-- the loop that gathers what is wrong: its start, a turn and its end
+module _ (rows : List ℕ) (named waiting under : ℕ) where
+  abbrev pub wrong_before : ℕ → ℕ
+  wrong_before b = union_of b (λ i. row_wrong named waiting under i (entry rows i))
+
+  pub wrong_none : 0 ≡ wrong_before 0
+  unfolding union_of
+  wrong_none = over_none _ _
+
+  pub wrong_more : (b wrong here : ℕ) → wrong ≡ wrong_before b → here ≡ row_wrong named waiting under b (entry rows b) → bit_or wrong here ≡ wrong_before (b + 1)
+  unfolding union_of
+  wrong_more b wrong here p q = rw q (over_more _ _ _ p)
+
+  pub wrong_all : (b wrong : ℕ) → wrong ≡ wrong_before b → b ≤ jobs → jobs ≤ b → eqb wrong 0 ≡ rows_sound rows named waiting under
+  wrong_all b wrong p u v = rw (p, le_antisymm u v) (rows_are rows named waiting under)
+
+pub ruleset gathered_rows = (wrong_none, wrong_more, wrong_all)
+
+-- the rows of a database among all the dependencies
+rows_first : (rows : List ℕ) (named waiting under : ℕ) → rows_sound (take jobs rows) named waiting under ≡ rows_sound rows named waiting under
+unfolding rows_sound
+rows_first rows named waiting under = every_same jobs _ _ (λ b l. ap (row_sound named waiting under b) (get_or-take jobs rows b 0 l))
+
+pub steps_first : (named asked released confirmed held : ℕ) (rows : List ℕ) (n : ℕ) → n ≡ jobs
+    → steps_sound named asked released confirmed held (take n rows) ≡ steps_sound named asked released confirmed held rows
 unfolding steps_sound
-marks_fail named asked released confirmed held rows e = rw (steps_sound, e)
-
-pub marks_hold : (named asked released confirmed held : ℕ) (rows : List ℕ) → marks_sound named asked released confirmed held ≡ true
-    → rows_sound rows named (less jobs named released) (less jobs released confirmed) ≡ steps_sound named asked released confirmed held rows
-unfolding steps_sound
-marks_hold named asked released confirmed held rows e = rw (steps_sound, e)
-
-pub steps_at : (held : ℕ) (named asked released confirmed dependencies : List ℕ) (k : ℕ)
-    → steps_sound (entry named k) (entry asked k) (entry released k) (entry confirmed k) held (drop (k * jobs) dependencies)
-    ≡ database_sound held named asked released confirmed dependencies k
-unfolding database_sound
-steps_at held named asked released confirmed dependencies k = refl
-
--- all of it
-
-pub sound_is : (tickets : List ℕ) (held : ℕ) (order named asked released confirmed dependencies : List ℕ)
-    → sound_in tickets held order named asked released confirmed dependencies
-    ≡ (within jobs held (open_in named)
-    && every jobs (ticket_sound tickets (open_in named))
-    && every jobs (place_sound order (open_in named))
-    && every databases (database_sound held named asked released confirmed dependencies))
-unfolding sound_in
-sound_is tickets held order named asked released confirmed dependencies = refl
-
--- where it fails first, and where all but the databases hold
-module _ (tickets : List ℕ) (held : ℕ) (order named asked released confirmed dependencies : List ℕ) (slots : ℕ) (p : slots ≡ open_in named) where
-  pub held_fails : ¬ (less jobs held slots ≡ 0) → false ≡ sound_in tickets held order named asked released confirmed dependencies
-  held_fails h = rw (sound_is tickets held order named asked released confirmed dependencies, ← p, ne_eqb (less jobs held slots) 0 h)
-
-  pub tickets_fail : less jobs held slots ≡ 0 → every jobs (ticket_sound tickets slots) ≡ false
-      → false ≡ sound_in tickets held order named asked released confirmed dependencies
-  tickets_fail h t = rw (sound_is tickets held order named asked released confirmed dependencies, ← p, h, t)
-
-  pub order_fails : less jobs held slots ≡ 0 → every jobs (ticket_sound tickets slots) ≡ true → every jobs (place_sound order slots) ≡ false
-      → false ≡ sound_in tickets held order named asked released confirmed dependencies
-  order_fails h t o = rw (sound_is tickets held order named asked released confirmed dependencies, ← p, h, t, o)
-
-  pub databases_decide : less jobs held slots ≡ 0 → every jobs (ticket_sound tickets slots) ≡ true → every jobs (place_sound order slots) ≡ true
-      → every databases (database_sound held named asked released confirmed dependencies)
-      ≡ sound_in tickets held order named asked released confirmed dependencies
-  databases_decide h t o = rw (sound_is tickets held order named asked released confirmed dependencies, ← p, h, t, o)
+steps_first named asked released confirmed held rows n e =
+    rw e (ap (λ (b : Bool). marks_sound named asked released confirmed held && b) (rows_first rows named _ _))

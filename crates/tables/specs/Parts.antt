@@ -1,8 +1,7 @@
 -- What the code of the test for soundness asks for on the way, and the test itself does not name. Assumes nothing: these are definitions.
-use Rattle.std.specs.Prelude.{ℕ, ◌+◌, ◌*◌, ◌%◌, ◌^◌, Bool, true, false, not, ◌&&◌, ◌||◌, List, eqb, ltb}
+use Rattle.std.specs.Prelude.{ℕ, ◌%◌, ◌^◌, Bool, true, false, not, ◌&&◌, ◌||◌, List, eqb, ltb}
 use Rattle.std.specs.Int.Bits.{bit_and, bit_or}
 use Rattle.mask.specs.Member.{holds, excluding, less, lowest}
-use Rattle.mask.specs.Members.{union_of}
 use Rattle.tables.specs.Limits.{jobs}
 use Rattle.tables.specs.Tables.{entry, holders_in}
 use Rattle.tables.specs.Test.{partners, pressing}
@@ -30,9 +29,6 @@ own_ticket tickets slots j = not (holds slots j) || eqb (holders_in tickets slot
 unfoldable pub new_ticket : List ℕ → ℕ → ℕ → ℕ → Bool
 new_ticket tickets slots seen j = eqb (bit_and seen (2 ^ (entry tickets j % 64))) 0 || eqb (holders_in tickets slots (entry tickets j)) (2 ^ j)
 
--- at most one job names the database, and no step presses on another; no row has a dependency
+-- at most one job names the database, and no step presses on another
 unfoldable pub quiet : ℕ → ℕ → ℕ → Bool
 quiet named waiting under = eqb (excluding named (lowest jobs named)) 0 && (eqb waiting 0 || eqb under 0)
-
-unfoldable pub rows_empty : List ℕ → ℕ → Bool
-rows_empty dependencies k = eqb (union_of jobs (λ b. less jobs (entry dependencies (k * jobs + b)) 0)) 0

@@ -1,85 +1,97 @@
-// The dependencies at one database, a set for each slot.
-ghost use Rattle.std.specs.Prelude.{◌≡◌, ℕ, ◌*◌, ◌<◌, drop};
-ghost use Rattle.tables.specs.Limits.{jobs, databases};
+// The dependencies at one database, a set for each slot. That b is a slot is asked by three functions, each of which hands it to the next: a type for it would be made in each turn of the loop.
+ghost use Rattle.std.specs.Prelude.{◌≡◌, ◌<◌, ◌==◌, length};
+ghost use Rattle.mask.specs.Members.{union_of};
+ghost use Rattle.tables.specs.Limits.{jobs};
+ghost use Rattle.tables.specs.Tables.{entry};
 ghost use Rattle.tables.specs.Test.{partners, pressing, rows_sound};
-ghost use Rattle.tables.specs.Parts.{row_wrong, quiet, rows_empty};
+ghost use Rattle.tables.specs.Parts.{row_wrong, quiet};
 
-use crate::STEPS;
-use numbers::Slot;
+use mask::Set;
 
-// Who may go before slot b, and who has to.
-fn partners(named: u32, b: usize) -> u32
-    requires { b < jobs }
-    ensures { result ≡ partners named b }
-{
-    let at = 1u32 << b;
-    if named & at != 0 { named & !at } else { 0 }
+// The slots whose job names the database, those whose step there waits to be released, and those whose step is under way.
+#[derive(Clone, Copy)]
+pub(crate) struct Steps {
+    pub(crate) named: u32,
+    pub(crate) waiting: u32,
+    pub(crate) under_way: u32,
 }
 
-fn pressing(waiting: u32, under: u32, b: usize) -> u32
-    requires { b < jobs }
-    ensures { result ≡ pressing waiting under b }
+// As `slots::open_slots` of a state: a chain of one line each.
+#[tactic(auto, using(mask::proofs::Union::fold_union))]
+fn are_empty(rows: &[u32]) -> bool
+    requires { length rows.now ≡ jobs }
+    ensures { result ≡ (union_of jobs (entry rows.now) == 0) }
 {
-    if waiting & 1 << b != 0 { under } else { 0 }
+    rows.iter().fold(0, |any, into| any | *into) == 0
 }
 
-// Those that go before slot b and may not, and those that have to and do not.
-fn row_wrong(named: u32, waiting: u32, under: u32, b: usize, into: u32) -> u32
-    requires { b < jobs }
-    ensures { result ≡ row_wrong named waiting under b into }
-{
-    into & !partners(named, b) | pressing(waiting, under, b) & !into
-}
-
-// The dependencies at database k, row by row. What is wrong is gathered without a branch.
-fn rows_apart(dependencies: &[u32; STEPS], k: usize, named: u32, waiting: u32, under: u32) -> bool
-    requires { k < databases }
-    ensures { result ≡ rows_sound (drop (k * jobs) dependencies.now) named waiting under }
-{
-    let mut wrong = 0u32;
-    for b in 0..Slot::COUNT {
-        wrong = wrong | row_wrong(named, waiting, under, b, dependencies[k * Slot::COUNT + b]);
+impl Steps {
+    // Who may go before slot b, and who has to. By bits: with `holds` and `without_member` the rows took four times as long (tried), since LLVM then tests them one by one.
+    #[tactic(auto, using(crate::proofs::Testing::shifts), unfolding(crate::specs::Test::partners))]
+    fn partners(self, b: usize) -> u32
+        requires { b < jobs }
+        ensures { result ≡ partners self.named b }
+    {
+        let at = 1u32 << b;
+        if self.named & at != 0 {
+            self.named.less(at)
+        } else {
+            0
+        }
     }
-    wrong == 0
-}
 
-// At most one job names the database, and no step presses on another: then nothing may go before anything.
-fn is_quiet(named: u32, waiting: u32, under: u32) -> bool
-    ensures { result ≡ quiet named waiting under }
-{
-    if mask::slots::rest(named) != 0 {
-        return false;
+    #[tactic(auto, using(crate::proofs::Testing::shifts), unfolding(crate::specs::Test::pressing))]
+    fn pressing(self, b: usize) -> u32
+        requires { b < jobs }
+        ensures { result ≡ pressing self.waiting self.under_way b }
+    {
+        if self.waiting & 1 << b != 0 {
+            self.under_way
+        } else {
+            0
+        }
     }
-    if waiting == 0 {
-        return true;
-    }
-    under == 0
-}
 
-fn rows_empty(dependencies: &[u32; STEPS], k: usize) -> bool
-    requires { k < databases }
-    ensures { result ≡ rows_empty dependencies.now k }
-{
-    let mut any = 0u32;
-    for b in 0..Slot::COUNT {
-        any = any | dependencies[k * Slot::COUNT + b] & !0;
+    // Those that go before slot b and may not, and those that have to and do not.
+    #[tactic(auto, unfolding(crate::specs::Parts::row_wrong))]
+    fn row_wrong(self, b: usize, into: u32) -> u32
+        requires { b < jobs }
+        ensures { result ≡ row_wrong self.named self.waiting self.under_way b into }
+    {
+        into.less(self.partners(b)) | self.pressing(b).less(into)
     }
-    any == 0
-}
 
-// A quiet database, as many are where few jobs are open, takes a fifth of the time.
-pub(crate) fn rows_sound(
-    dependencies: &[u32; STEPS],
-    k: usize,
-    named: u32,
-    waiting: u32,
-    under: u32,
-) -> bool
-    requires { k < databases }
-    ensures { result ≡ rows_sound (drop (k * jobs) dependencies.now) named waiting under }
-{
-    if is_quiet(named, waiting, under) {
-        return rows_empty(dependencies, k);
+    // Row by row. What is wrong is gathered without a branch.
+    #[tactic(auto, using(crate::proofs::Testing::gathered_rows))]
+    fn rows_apart(self, rows: &[u32]) -> bool
+        requires { length rows.now ≡ jobs }
+        ensures { result ≡ rows_sound rows.now self.named self.waiting self.under_way }
+    {
+        let mut wrong = 0;
+        for (b, into) in rows.iter().enumerate() {
+            wrong |= self.row_wrong(b, *into);
+        }
+        wrong == 0
     }
-    rows_apart(dependencies, k, named, waiting, under)
+
+    // At most one job names the database, and no step presses on another: then nothing may go before anything.
+    #[tactic(auto, unfolding(crate::specs::Parts::quiet))]
+    fn are_quiet(self) -> bool
+        ensures { result ≡ quiet self.named self.waiting self.under_way }
+    {
+        self.named.rest() == 0 && (self.waiting == 0 || self.under_way == 0)
+    }
+
+    // A quiet database, as many are where few jobs are open, takes a fifth of the time.
+    #[tactic(auto, using(crate::proofs::Quiet::rows_quiet))]
+    pub(crate) fn rows_sound(self, rows: &[u32]) -> bool
+        requires { length rows.now ≡ jobs }
+        ensures { result ≡ rows_sound rows.now self.named self.waiting self.under_way }
+    {
+        if self.are_quiet() {
+            are_empty(rows)
+        } else {
+            self.rows_apart(rows)
+        }
+    }
 }

@@ -1,120 +1,77 @@
-// Whether the tables are sound. It is tested before every call, so all of it is operations on sets of slots, over lent arrays.
-ghost use Rattle.std.specs.Prelude.{◌≡◌, ℕ, ◌*◌, ◌<◌, drop};
+// Whether the tables are sound. It is tested before every call, so all of it is operations on sets of slots.
+ghost use Rattle.std.specs.Prelude.{◌≡◌, ◌<◌};
 ghost use Rattle.loops.specs.Loop.{every};
 ghost use Rattle.tables.specs.Limits.{jobs, databases};
-ghost use Rattle.tables.specs.Test.{place_sound, marks_sound, steps_sound, database_sound, sound_in};
+ghost use Rattle.tables.specs.Test.{place_sound, database_sound, sound_in};
 ghost use Rattle.tables.specs.Parts.{place_in};
 
-use crate::{STEPS, differ, rows, slots};
+use crate::marks::Marks;
+use crate::tickets::Tickets;
+use crate::{Tables, slots};
+use mask::Set;
 use numbers::{Database, Slot};
 
 // Place i of the opening order, with slot o: one of those left, or zero past the n open ones.
-fn place_sound(left: u32, n: u32, i: usize, o: u8) -> bool
-    requires { i < jobs }
+#[tactic(auto, using(crate::proofs::Testing::one_place))]
+fn place_sound(left: u32, n: usize, i: usize, o: u8) -> bool
     ensures { result ≡ place_in left n i o }
 {
-    if (i as u32) < n {
-        mask::slots::holds(left, o)
-    } else {
-        o == 0
-    }
+    if i < n { left.holds(o) } else { o == 0 }
 }
 
-fn order_sound(order: &[u8; Slot::COUNT], slots: u32) -> bool
-    ensures { result ≡ every jobs (place_sound order.now slots) }
-{
-    let n = mask::slots::size(slots);
-    let mut listed = 0u32;
-    for i in 0..Slot::COUNT {
-        let o = order[i];
-        if !place_sound(slots & !listed, n, i, o) {
-            return false;
+impl Tables<'_> {
+    #[tactic(auto, using(crate::proofs::Testing::places))]
+    fn order_sound(self, slots: u32) -> bool
+        ensures { result ≡ every jobs (place_sound self.entry.order.now slots) }
+    {
+        let n = slots.size() as usize;
+        let mut listed = 0u32;
+        for (i, o) in self.order.iter().enumerate() {
+            if !place_sound(slots.less(listed), n, i, *o) {
+                return false;
+            }
+            // Slower with `with_member` (tried), which tests once more that o is a slot.
+            listed |= 1 << *o;
         }
-        listed = listed | 1 << o;
+        true
     }
-    true
-}
 
-// Each mark of a step lies within the one before it, and a held close has its step confirmed.
-fn marks_sound(named: u32, asked: u32, released: u32, confirmed: u32, held: u32) -> bool
-    ensures { result ≡ marks_sound named asked released confirmed held }
-{
-    asked & !named | released & !asked | confirmed & !released | held & named & !confirmed == 0
-}
+    // The steps at database k.
+    #[tactic(auto, using(crate::proofs::Testing::steps_first), unfolding(crate::specs::Test::database_sound))]
+    fn database_sound(self, k: usize) -> bool
+        requires { k < databases }
+        ensures { let t = self.entry in result ≡ database_sound t.held t.named.now t.asked.now t.released.now t.confirmed.now t.dependencies.now k }
+    {
+        let marks = Marks {
+            named: self.named[k],
+            asked: self.asked[k],
+            released: self.released[k],
+            confirmed: self.confirmed[k],
+        };
+        let dependencies = self.dependencies;
+        let first = k * Slot::COUNT;
+        marks.steps_sound(self.held, &dependencies[first..first + Slot::COUNT])
+    }
 
-// The steps at database k.
-fn steps_sound(
-    named: u32,
-    asked: u32,
-    released: u32,
-    confirmed: u32,
-    held: u32,
-    dependencies: &[u32; STEPS],
-    k: usize,
-) -> bool
-    requires { k < databases }
-    ensures { result ≡ steps_sound named asked released confirmed held (drop (k * jobs) dependencies.now) }
-{
-    if !marks_sound(named, asked, released, confirmed, held) {
-        return false;
+    fn databases_sound(self) -> bool
+        ensures { let t = self.entry in result ≡ every databases (database_sound t.held t.named.now t.asked.now t.released.now t.confirmed.now t.dependencies.now) }
+    {
+        (0..Database::COUNT).all(|k| self.database_sound(k))
     }
-    rows::rows_sound(
-        dependencies,
-        k,
-        named,
-        named & !released,
-        released & !confirmed,
-    )
-}
 
-fn databases_sound<'a>(
-    held: u32,
-    named: &'a [u32; Database::COUNT],
-    asked: &'a [u32; Database::COUNT],
-    released: &'a [u32; Database::COUNT],
-    confirmed: &'a [u32; Database::COUNT],
-    dependencies: &'a [u32; STEPS],
-) -> bool
-    ensures { result ≡ every databases (database_sound held named.now asked.now released.now confirmed.now dependencies.now) }
-{
-    for k in 0..Database::COUNT {
-        if !steps_sound(
-            named[k],
-            asked[k],
-            released[k],
-            confirmed[k],
-            held,
-            dependencies,
-            k,
-        ) {
-            return false;
-        }
+    // All of it.
+    #[tactic(auto, unfolding(crate::specs::Test::sound_in))]
+    pub fn are_sound(self) -> bool
+        ensures { let t = self.entry in result ≡ sound_in t.tickets.now t.held t.order.now t.named.now t.asked.now t.released.now t.confirmed.now t.dependencies.now }
+    {
+        let slots = slots::open_slots(self.named);
+        let tickets = Tickets {
+            by_slot: self.tickets,
+            slots,
+        };
+        self.held.less(slots) == 0
+            && tickets.are_sound()
+            && self.order_sound(slots)
+            && self.databases_sound()
     }
-    true
-}
-
-// All of it, over the tables of a state.
-pub fn all_sound<'a>(
-    tickets: &'a [u16; Slot::COUNT],
-    held: u32,
-    order: &'a [u8; Slot::COUNT],
-    named: &'a [u32; Database::COUNT],
-    asked: &'a [u32; Database::COUNT],
-    released: &'a [u32; Database::COUNT],
-    confirmed: &'a [u32; Database::COUNT],
-    dependencies: &'a [u32; STEPS],
-) -> bool
-    ensures { result ≡ sound_in tickets.now held order.now named.now asked.now released.now confirmed.now dependencies.now }
-{
-    let slots = slots::open_slots(named);
-    if held & !slots != 0 {
-        return false;
-    }
-    if !differ::tickets_sound(tickets, slots) {
-        return false;
-    }
-    if !order_sound(order, slots) {
-        return false;
-    }
-    databases_sound(held, named, asked, released, confirmed, dependencies)
 }

@@ -1,8 +1,5 @@
-use Rattle.std.proofs.Common.{ℕ, ap, ◌∙◌}
-use Rattle.std.proofs.Math.ListN.{set, replicate}
-use Rattle.layout.specs.Put.{put}
-use Rattle.layout.specs.Bytes.{bytes_of}
-use Rattle.boundary.proofs.Alone.{alone_long, alone_is}
+use Rattle.std.proofs.Common.{◌∙◌}
+use Rattle.boundary.proofs.Answering.{plays_answers}
 use Rattle.boundary.proofs.Cases.{call_wrong_state, call_wrong_answer, call_right}
 use Rattle.boundary.proofs.call.Goals as goal
 
@@ -14,8 +11,6 @@ returns-then-answer-ne-ROW_SIZE c = call_wrong_answer _ _ _ c.if-state-ne-STATE_
 
 pub returns : goal.returns
 returns c =
-    let w = c.put_two.ensures ∙ ap (λ (x : ℕ). put (set (set (replicate 4 0) 0 c.args.kind) 1 c.args.database) 2 (bytes_of 2 x)) c.widened.ensures in
-    call_right _ _ _ c.if-state-ne-STATE_SIZE.false c.if-answer-ne-ROW_SIZE.false _ (alone_long _ _ _ _ w) (alone_is _ _ _ _ w c.ranges.value.fits) _ _ _ _
-    c.decode.ensures
-    c.play_all-left.ensures
+    call_right _ _ _ c.if-state-ne-STATE_SIZE.false c.if-answer-ne-ROW_SIZE.false _ _ _ _ (c.new-tested.ensures ∙ c.decode.ensures)
+    (plays_answers _ _ _ _ _ _ _ c.play-row.ensures c.put_row.ensures)
     c.encode.ensures

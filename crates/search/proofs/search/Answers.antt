@@ -1,14 +1,14 @@
-use Rattle.std.proofs.Common.{refl, inl}
-use Rattle.search.proofs.Answer.{begin_ready, search_none, search_some}
+use Rattle.search.proofs.Answer.{begin_asked, search_none, search_some}
+use Rattle.search.proofs.search.Goals.{then-n-lt-COUNT, else-n-lt-COUNT}
 use Rattle.search.proofs.search.Goals as goal
 
-pub returns-then-n-ge-SLOTS : goal.returns-then-n-ge-SLOTS
-returns-then-n-ge-SLOTS c = search_none _ _ _ c.if-n-ge-SLOTS.true
-
-pub visit_job-moves-requires : goal.visit_job-moves-requires
-visit_job-moves-requires c =
-    (c.if-n-ge-SLOTS.false, c.if-n-ge-SLOTS.false, inl refl, begin_ready _ _ _ _ c.put_all_ahead.ensures)
+pub visit_job-requires : goal.visit_job-requires
+visit_job-requires c = rw c.put_all_ahead.ensures (begin_asked _ _ _ c.if-n-lt-COUNT.true)
 
 pub returns : goal.returns
 returns c =
-    search_some _ _ _ c.if-n-ge-SLOTS.false _ c.put_all_ahead.ensures _ _ _ _ c.visit_job-moves.ensures
+    rw c.moves.ensures
+    (elim c.if-n-lt-COUNT.branch [
+      | then-n-lt-COUNT w ↦ rw w.walker-is (search_some _ _ _ (rw w.put_all_ahead.ensures at w.visit_job.ensures))
+      | else-n-lt-COUNT w ↦ rw w.walker-is (search_none _ _ _ w.if-n-lt-COUNT.false)
+    ])

@@ -1,10 +1,11 @@
+use Rattle.std.proofs.Common.{refl, rules}
 use Rattle.boundary.proofs.Written.{row_done}
 use Rattle.boundary.proofs.row.put_row.Goals as goal
 
 pub returns : goal.returns
 returns c =
-    row_done _ _ _ _ _ _ _ _ c.requires.0 c.requires.1
+    row_done _ _ _ _ _ _ _ _ (search rules) c.requires
     c.put_numbers.ensures
-    c.put_four.ensures
-    c.put_two.ensures
-    c.put_twos.ensures
+    (c.fill.ensures.after (λ y h. h))
+    refl
+    c.put_all.ensures

@@ -1,15 +1,16 @@
-use Rattle.boundary.proofs.Coding.{decode_done}
+use Rattle.std.proofs.lemmas.List.{map-id}
+use Rattle.boundary.specs.State.{decoded}
 use Rattle.boundary.proofs.state.decode.Goals as goal
 
 pub returns : goal.returns
+unfolding decoded
 returns c =
-    decode_done _ _ _ _ _ _ _ _ _ _
-    c.get_twos.ensures
-    c.get_bytes.ensures
-    c.get_fours.ensures
-    c.get_fours-2.ensures
-    c.get_fours-3.ensures
-    c.get_fours-4.ensures
-    c.get_fours-5.ensures
-    c.get_four.ensures
-    c.get_two.ensures
+    cc (
+      simp map-id at c.get_all.ensures,
+      simp map-id at c.get_all-2.ensures,
+      simp map-id at c.get_all-3.ensures,
+      simp map-id at c.get_all-4.ensures,
+      simp map-id at c.get_all-5.ensures,
+      simp map-id at c.get_all-6.ensures,
+      simp map-id at c.get_all-7.ensures,
+    )

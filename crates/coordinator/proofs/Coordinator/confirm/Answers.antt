@@ -3,4 +3,4 @@ use Rattle.coordinator.proofs.Tested.{confirm_is}
 use Rattle.coordinator.proofs.Coordinator.confirm.Goals as goal
 
 pub returns : goal.returns
-returns c = let s = c.args.self in c.confirm_tested-answer.ensures s.held s.maker.next s.order ∙ confirm_is s _ c.is_sound-sound.ensures _ _
+returns c = c.confirm_tested-answer.ensures ∙ confirm_is c.args.self _ c.is_sound-sound.ensures _ _

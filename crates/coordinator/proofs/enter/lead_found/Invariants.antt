@@ -5,4 +5,4 @@ use Rattle.coordinator.specs.Change.{lead}
 use Rattle.coordinator.proofs.enter.lead_found.Given as goal
 
 abbrev pub invariant-loop-k : goal.invariant-loop-k
-invariant-loop-k l = l.dependencies ≡ over l.k (λ u. lead u (entry l.found u) l.n.0) l.initial.dependencies
+invariant-loop-k l = l.dependencies ≡ over l.k (λ u. lead u (entry l.found u) l.job.slot.0) l.initial.dependencies

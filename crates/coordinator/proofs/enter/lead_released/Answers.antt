@@ -1,23 +1,10 @@
-use Rattle.mask.proofs.Walking.{left_start, left_lowest, left_rest, left_falls, left_done}
+use Rattle.mask.proofs.Walking.{left_turn, left_done}
 use Rattle.coordinator.specs.Limits.{databases}
 use Rattle.coordinator.proofs.enter.lead_released.Goals as goal
 
-pub loop-left-init : goal.loop-left-init
-loop-left-init c = left_start _ _ _ _
-
-pub bounds-released-k : goal.bounds-released-k
-bounds-released-k c = (left_lowest _ databases _ _ _ _ _ c.ranges.mask.fits c.loop-left-test.true c.loop-left.invariant c.lowest-k.ensures).within
-
-pub lead-requires : goal.lead-requires
-lead-requires c =
-    ((left_lowest _ databases _ _ _ _ _ c.ranges.mask.fits c.loop-left-test.true c.loop-left.invariant c.lowest-k.ensures).within, c.requires)
-
-pub loop-left-smaller : goal.loop-left-smaller
-loop-left-smaller c = left_falls _ databases _ _ _ _ _ c.ranges.mask.fits c.loop-left-test.true c.loop-left.invariant c.lowest-k.ensures _ c.rest-left.ensures
-
-pub loop-left-preserved : goal.loop-left-preserved
-loop-left-preserved c =
-    left_rest _ databases _ _ _ _ _ c.ranges.mask.fits c.loop-left-test.true c.loop-left.invariant c.lowest-k.ensures _ _ c.rest-left.ensures c.lead.ensures
+pub loop-k-preserved : goal.loop-k-preserved
+loop-k-preserved c =
+    left_turn _ databases _ _ _ _ _ c.in-Some.ensures.steps.0 c.loop-k.invariant _ _ c.in-Some.ensures.steps.1 c.lead.ensures
 
 pub returns : goal.returns
-returns c = left_done _ databases _ _ _ _ c.loop-left-test.false c.loop-left.invariant
+returns c = left_done _ databases _ _ _ _ c.in-None.ensures.steps.0 c.loop-k.invariant

@@ -5,8 +5,5 @@ use Rattle.coordinator.specs.Limits.{jobs}
 use Rattle.coordinator.specs.Tables.{may_close_in}
 use Rattle.coordinator.proofs.may_close.may_close_now.Given as goal
 
-abbrev pub invariant-loop-left : goal.invariant-loop-left
-invariant-loop-left l = Left (λ j m. bit_or m (tally (may_close_in l.dependencies j) * 2 ^ j)) jobs l.held 0 l.left l.found
-
-abbrev pub decreases-loop-left : goal.decreases-loop-left
-decreases-loop-left l = l.left
+abbrev pub invariant-loop-j : goal.invariant-loop-j
+invariant-loop-j l = Left (λ j m. bit_or m (tally (may_close_in l.dependencies j) * 2 ^ j)) jobs l.held 0 l.j-iterator.left l.found

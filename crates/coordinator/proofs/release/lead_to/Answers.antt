@@ -1,32 +1,13 @@
-use Rattle.std.proofs.Common.{arith}
-use Rattle.mask.specs.Lowest.{Lowest}
 use Rattle.mask.proofs.Words.{one_shl}
-use Rattle.mask.proofs.Walking.{left_start, left_lowest, left_rest, left_falls, left_done}
+use Rattle.mask.proofs.Walking.{left_turn, left_done}
 use Rattle.coordinator.specs.Limits.{jobs}
 use Rattle.coordinator.specs.Change.{lead, lead_to}
 use Rattle.coordinator.proofs.release.lead_to.Goals as goal
 
-pub loop-left-init : goal.loop-left-init
-loop-left-init c = left_start _ _ _ _
-
-pub bounds-dependencies-first : goal.bounds-dependencies-first
-bounds-dependencies-first c =
-    let l : Lowest jobs _ _ = left_lowest _ jobs _ _ _ _ _ c.ranges.later.fits c.loop-left-test.true c.loop-left.invariant c.lowest-b.ensures in
-    omega (arith, l.within)
-
-pub bounds-dependencies-first-in-loop-left : goal.bounds-dependencies-first-in-loop-left
-bounds-dependencies-first-in-loop-left c =
-    let l : Lowest jobs _ _ = left_lowest _ jobs _ _ _ _ _ c.ranges.later.fits c.loop-left-test.true c.loop-left.invariant c.lowest-b.ensures in
-    omega (arith, l.within)
-
-pub loop-left-smaller : goal.loop-left-smaller
-loop-left-smaller c = left_falls _ jobs _ _ _ _ _ c.ranges.later.fits c.loop-left-test.true c.loop-left.invariant c.lowest-b.ensures _ c.rest-left.ensures
-
-pub loop-left-preserved : goal.loop-left-preserved
-loop-left-preserved c =
-    left_rest _ jobs _ _ _ _ _ c.ranges.later.fits c.loop-left-test.true c.loop-left.invariant c.lowest-b.ensures _ _ c.rest-left.ensures
-    (rw (one_shl 32 _ c.requires.1))
+pub loop-b-preserved : goal.loop-b-preserved
+loop-b-preserved c =
+    left_turn _ jobs _ _ _ _ _ c.in-Some.ensures.steps.0 c.loop-b.invariant _ _ c.in-Some.ensures.steps.1 (rw (one_shl 32 _ c.args.step.in_range.0))
 
 pub returns : goal.returns
 unfolding lead_to lead
-returns c = left_done _ jobs _ _ _ _ c.loop-left-test.false c.loop-left.invariant
+returns c = left_done _ jobs _ _ _ _ c.in-None.ensures.steps.0 c.loop-b.invariant

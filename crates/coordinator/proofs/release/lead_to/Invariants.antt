@@ -4,9 +4,6 @@ use Rattle.coordinator.specs.Limits.{jobs}
 use Rattle.coordinator.specs.Views.{entry}
 use Rattle.coordinator.proofs.release.lead_to.Given as goal
 
-abbrev pub invariant-loop-left : goal.invariant-loop-left
-invariant-loop-left l =
-    Left (λ b d. set d (l.first + b) (bit_or (entry d (l.first + b)) (2 ^ l.a.0))) jobs l.initial.left l.initial.dependencies l.left l.dependencies
-
-abbrev pub decreases-loop-left : goal.decreases-loop-left
-decreases-loop-left l = l.left
+abbrev pub invariant-loop-b : goal.invariant-loop-b
+invariant-loop-b l =
+    Left (λ b d. set d (l.first + b) (bit_or (entry d (l.first + b)) (2 ^ l.step.slot.0))) jobs l.later l.initial.dependencies l.b-iterator.left l.dependencies

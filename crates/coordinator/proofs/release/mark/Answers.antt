@@ -4,4 +4,4 @@ use Rattle.coordinator.proofs.release.mark.Goals as goal
 
 pub returns : goal.returns
 unfolding mark
-returns c = rw (or_shl 32 _ c.args.j.0 c.requires.1)
+returns c = rw (or_shl 32 _ _ c.args.step.in_range.0)

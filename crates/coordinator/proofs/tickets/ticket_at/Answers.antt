@@ -1,8 +1,9 @@
-use Rattle.coordinator.proofs.Reach.{ticket_below, ticket_beyond}
+use Rattle.std.proofs.Common.{◌≡◌, ◌∙◌, sym, rules}
+use Rattle.coordinator.specs.Views.{entry}
+use Rattle.coordinator.proofs.Reach.{ticket_there}
 use Rattle.coordinator.proofs.tickets.ticket_at.Goals as goal
 
-pub returns-then-at-lt-JOBS : goal.returns-then-at-lt-JOBS
-returns-then-at-lt-JOBS c = ticket_below _ _ c.if-at-lt-JOBS.true
-
-pub returns-else-at-lt-JOBS : goal.returns-else-at-lt-JOBS
-returns-else-at-lt-JOBS c = ticket_beyond _ _ c.if-at-lt-JOBS.false
+pub returns : goal.returns
+returns c =
+    let read : c.unwrap_or.result ≡ entry c.args.tickets.now c.args.j = search rules in
+    read ∙ sym (ticket_there _ (search rules) _)

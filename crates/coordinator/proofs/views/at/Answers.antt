@@ -1,8 +1,9 @@
-use Rattle.coordinator.proofs.Reach.{set_below, set_beyond}
+use Rattle.std.proofs.Common.{◌≡◌, ◌∙◌, sym, rules}
+use Rattle.coordinator.specs.Views.{entry}
+use Rattle.coordinator.proofs.Reach.{set_there}
 use Rattle.coordinator.proofs.views.at.Goals as goal
 
-pub returns-then-i-lt-DATABASES : goal.returns-then-i-lt-DATABASES
-returns-then-i-lt-DATABASES c = set_below _ _ c.if-i-lt-DATABASES.true
-
-pub returns-else-i-lt-DATABASES : goal.returns-else-i-lt-DATABASES
-returns-else-i-lt-DATABASES c = set_beyond _ _ c.if-i-lt-DATABASES.false
+pub returns : goal.returns
+returns c =
+    let read : c.unwrap_or.result ≡ entry c.args.sets.now c.args.k.0 = search rules in
+    read ∙ sym (set_there _ (search rules) _)

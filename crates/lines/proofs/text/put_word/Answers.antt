@@ -1,13 +1,10 @@
-use Rattle.std.proofs.Common.{arith}
-use Rattle.lines.proofs.Decimal.{length_decimal}
-use Rattle.lines.proofs.Line.{word_done}
+use Rattle.std.proofs.Common.{◌≡◌, length, ◌∙◌, ap, arith}
+use Rattle.lines.proofs.Line.{word_put}
 use Rattle.lines.proofs.text.put_word.Goals as goal
 
-pub bounds-out-p : goal.bounds-out-p
-bounds-out-p c = omega (arith, length_decimal c.args.k c.args.n, c.digits-p.auto.out)
-
-pub overflow_add-result : goal.overflow_add-result
-overflow_add-result c = omega (arith, length_decimal c.args.k c.args.n, c.digits-p.auto.out)
-
 pub returns : goal.returns
-returns c = word_done _ _ _ _ _ _ _ c.requires.0 c.requires.1 c.requires.2 c.requires.3 c.digits-p.ensures.0 c.digits-p.ensures.1
+returns g c =
+    let is = c.as_bytes-digits.ensures.value ∙ c.format.ensures.text in
+    let long : length c.as_bytes-digits.result.now ≡ length c.format.result.now = ap length c.as_bytes-digits.ensures.value in
+    let w = word_put c.args.out.now _ (g.N.Integer.text c.args.n) c.args.at _ c.args.end (c.copy_from_slice.ensures.after ∙ is) (ap length is) (omega (arith, c.requires, long, c.format.ensures.fits)) in
+    (w.0, omega (arith, long, c.format.ensures.fits), w.1)

@@ -1,6 +1,0 @@
-use Rattle.record.specs.Record.{call_of}
-use Rattle.boundary.proofs.confirm_step.Goals as goal
-
-pub returns : goal.returns
-unfolding call_of
-returns c = c.call.ensures

@@ -1,6 +1,0 @@
-use Rattle.record.specs.Record.{call_of}
-use Rattle.boundary.proofs.open_job.Goals as goal
-
-pub returns : goal.returns
-unfolding call_of
-returns c = c.call.ensures

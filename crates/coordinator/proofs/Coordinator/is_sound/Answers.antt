@@ -1,5 +1,0 @@
-use Rattle.coordinator.proofs.Tables.{sound_of}
-use Rattle.coordinator.proofs.Coordinator.is_sound.Goals as goal
-
-pub returns : goal.returns
-returns c = sound_of c.args.self _ c.all_sound.ensures

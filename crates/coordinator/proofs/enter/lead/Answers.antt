@@ -1,7 +1,0 @@
-use Rattle.std.proofs.Common.{refl}
-use Rattle.coordinator.specs.Change.{lead}
-use Rattle.coordinator.proofs.enter.lead.Goals as goal
-
-pub returns : goal.returns
-unfolding lead
-returns c = refl

@@ -1,6 +1,0 @@
-use Rattle.std.proofs.Common.{rules}
-use Rattle.mask.proofs.Words.{rest_wraps}
-use Rattle.mask.proofs.slots.rest.Goals as goal
-
-pub returns : goal.returns
-returns c = rest_wraps 32 _ _ c.ranges.m.fits (search rules) c.wrapping_sub_u32.ensures.value
