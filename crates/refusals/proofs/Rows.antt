@@ -22,10 +22,6 @@ pub refused : (o : Option Refusal) (r : Refusal) → ◌≡◌ {A = Result (Unit
 refused None r e = absurd cc
 refused (Some m) r e = cc
 
-pub no_row : first_row [] ≡ None
-unfolding first_row
-no_row = refl
-
 -- where no row applies the first does not, and none below it
 pub passed : (r : Row) (rows : List Row) → first_row (r ∷ rows) ≡ None → (r.applies ≡ false) × (first_row rows ≡ None)
 unfolding first_row
