@@ -19,18 +19,12 @@ pub(crate) fn place(order: &[u8; Coordinator::JOBS], j: Slot) -> usize
     places.lowest() as usize
 }
 
-// What comes to stand at place i when those after p move up; beyond the last place stands 0, as `moved_up` has it.
+// What comes to stand at place i when those after p move up; beyond the last place stands 0.
 fn next(order: &[u8; Coordinator::JOBS], p: usize, i: usize) -> u8
-    requires { (i < jobs) × (length order.now ≡ jobs) }
+    requires { i < jobs }
     ensures { result ≡ entry order.now (i + tally (not (ltb i p))) }
 {
-    if i < p {
-        return order[i];
-    }
-    if i + 1 < Coordinator::JOBS {
-        return order[i + 1];
-    }
-    0
+    order.get(i + usize::from(p <= i)).copied().unwrap_or(0)
 }
 
 // The places after p move up by one, and the last becomes zero. Made anew: copy_within in place took a twentieth longer a close (tried).
