@@ -1,15 +1,17 @@
 -- The test for soundness, as the code makes it over lent arrays, is the definition's. Assumes nothing.
-use Prim.Native.Nat.{ℕ, ◌+◌, ◌-◌, ◌*◌, ◌%◌, ◌^◌, ◌<◌, ◌≤◌}
+use Prim.Native.Nat.{ℕ, zero, suc, ◌+◌, ◌-◌, ◌*◌, ◌%◌, ◌^◌, ◌<◌, ◌≤◌}
 use native.Mathlib.Nat.{le_antisymm}
 use native.Mathlib.Omega.{arith}
 use mathlib.Core.Bool.{Bool, true, false, ◌&&◌}
-use mathlib.Core.List.{List}
+use mathlib.Core.List.{List, []}
 use mathlib.Core.Path.{◌≡◌, refl, sym, ap, ◌∙◌}
 use borrow.Author.Tests.{ltb-true, ltb-false, eqb-true}
 use lib.Bits.{bit_and, bit_or}
 use lib.Dec.{eqb, ltb}
-use lib.ListN.{take}
+use lib.ListN.{get_or, take, drop}
+use lib.Seq.{drop-drop}
 use Rattle.std.proofs.lemmas.List.{get_or-take}
+use Rattle.std.specs.Simd.{first_chunks}
 use Rattle.loops.specs.Loop.{every}
 use Rattle.loops.proofs.Tests.{and_left}
 use Rattle.loops.proofs.Turns.{over_none, over_more, every_none, every_on, every_fails, every_same}
@@ -112,13 +114,19 @@ module _ (rows : List ℕ) (named waiting under : ℕ) where
 
 pub ruleset gathered_rows = (wrong_none, wrong_more, wrong_all)
 
--- the rows of a database among all the dependencies
+-- the rows at database k among all the dependencies
+
+chunk_at : (n m : ℕ) (l : List ℕ) (i : ℕ) → i < m → get_or (first_chunks n m l) i [] ≡ take n (drop (i * n) l)
+chunk_at n zero l i h = absurd (omega arith)
+chunk_at n (suc m) l zero h = let e : 0 * n ≡ 0 = omega arith in rw e
+chunk_at n (suc m) l (suc i) h = chunk_at n m (drop n l) i (omega arith) ∙ ap (take n) (drop-drop (i * n) n l ∙ ap (λ (j : ℕ). drop j l) (omega arith))
+
 rows_first : (rows : List ℕ) (named waiting under : ℕ) → rows_sound (take jobs rows) named waiting under ≡ rows_sound rows named waiting under
 unfolding rows_sound
 rows_first rows named waiting under = every_same jobs _ _ (λ b l. ap (row_sound named waiting under b) (get_or-take jobs rows b 0 l))
 
-pub steps_first : (named asked released confirmed held : ℕ) (rows : List ℕ) (n : ℕ) → n ≡ jobs
-    → steps_sound named asked released confirmed held (take n rows) ≡ steps_sound named asked released confirmed held rows
+pub steps_at : (named asked released confirmed held : ℕ) (dependencies : List ℕ) (n k : ℕ) (rows : List (List ℕ)) → rows ≡ first_chunks jobs n dependencies → k < n
+    → steps_sound named asked released confirmed held (get_or rows k []) ≡ steps_sound named asked released confirmed held (drop (k * jobs) dependencies)
 unfolding steps_sound
-steps_first named asked released confirmed held rows n e =
-    rw e (ap (λ (b : Bool). marks_sound named asked released confirmed held && b) (rows_first rows named _ _))
+steps_at named asked released confirmed held dependencies n k rows e l =
+    rw (e, chunk_at jobs n dependencies k l) (ap (λ (b : Bool). marks_sound named asked released confirmed held && b) (rows_first (drop (k * jobs) dependencies) named _ _))

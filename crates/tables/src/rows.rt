@@ -1,5 +1,5 @@
 // The dependencies at one database, a set for each slot.
-ghost use Rattle.std.specs.Prelude.{◌≡◌, ◌<◌, ◌==◌, length};
+ghost use Rattle.std.specs.Prelude.{◌≡◌, ◌<◌, ◌==◌};
 ghost use Rattle.mask.specs.Members.{union_of};
 ghost use Rattle.tables.specs.Limits.{jobs};
 ghost use Rattle.tables.specs.Tables.{entry};
@@ -7,6 +7,7 @@ ghost use Rattle.tables.specs.Test.{partners, pressing, rows_sound};
 ghost use Rattle.tables.specs.Parts.{row_wrong, quiet};
 
 use mask::Set;
+use numbers::Slot;
 
 // The slots whose job names the database, those whose step there waits to be released, and those whose step is under way.
 #[derive(Clone, Copy)]
@@ -17,8 +18,7 @@ pub(crate) struct Steps {
 }
 
 #[tactic(auto, using(mask::proofs::Union::fold_union))]
-fn are_empty(rows: &[u32]) -> bool
-    requires { length rows.now ≡ jobs }
+fn are_empty(rows: &[u32; Slot::COUNT]) -> bool
     ensures { result ≡ (union_of jobs (entry rows.now) == 0) }
 {
     rows.iter().fold(0, |any, into| any | *into) == 0
@@ -62,8 +62,7 @@ impl Steps {
 
     // Row by row. What is wrong is gathered without a branch.
     #[tactic(auto, using(crate::proofs::Testing::gathered_rows))]
-    fn rows_apart(self, rows: &[u32]) -> bool
-        requires { length rows.now ≡ jobs }
+    fn rows_apart(self, rows: &[u32; Slot::COUNT]) -> bool
         ensures { result ≡ rows_sound rows.now self.named self.waiting self.under_way }
     {
         let mut wrong = 0;
@@ -83,8 +82,7 @@ impl Steps {
 
     // A quiet database, as many are where few jobs are open, takes a fifth of the time.
     #[tactic(auto, using(crate::proofs::Quiet::rows_quiet))]
-    pub(crate) fn rows_sound(self, rows: &[u32]) -> bool
-        requires { length rows.now ≡ jobs }
+    pub(crate) fn rows_sound(self, rows: &[u32; Slot::COUNT]) -> bool
         ensures { result ≡ rows_sound rows.now self.named self.waiting self.under_way }
     {
         if self.are_quiet() {

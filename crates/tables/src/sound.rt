@@ -37,7 +37,7 @@ impl Tables<'_> {
     }
 
     // The steps at database k.
-    #[tactic(auto, using(crate::proofs::Testing::steps_first), unfolding(crate::specs::Test::database_sound))]
+    #[tactic(auto, using(crate::proofs::Testing::steps_at), unfolding(crate::specs::Test::database_sound))]
     fn database_sound(self, k: usize) -> bool
         requires { k < databases }
         ensures { let t = self.entry in result ≡ database_sound t.held t.named.now t.asked.now t.released.now t.confirmed.now t.dependencies.now k }
@@ -49,8 +49,8 @@ impl Tables<'_> {
             confirmed: self.confirmed[k],
         };
         let dependencies = self.dependencies;
-        let first = k * Slot::COUNT;
-        marks.steps_sound(self.held, &dependencies[first..first + Slot::COUNT])
+        let (rows, _) = dependencies.as_chunks::<{ Slot::COUNT }>();
+        marks.steps_sound(self.held, &rows[k])
     }
 
     fn databases_sound(self) -> bool
