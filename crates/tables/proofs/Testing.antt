@@ -1,5 +1,5 @@
 -- The test for soundness, as the code makes it over lent arrays, is the definition's. Assumes nothing.
-use Prim.Native.Nat.{ℕ, zero, suc, ◌+◌, ◌-◌, ◌*◌, ◌%◌, ◌^◌, ◌<◌, ◌≤◌}
+use Prim.Native.Nat.{ℕ, ◌+◌, ◌-◌, ◌*◌, ◌%◌, ◌^◌, ◌<◌, ◌≤◌}
 use native.Mathlib.Nat.{le_antisymm}
 use native.Mathlib.Omega.{arith}
 use mathlib.Core.Bool.{Bool, true, false, ◌&&◌}
@@ -8,11 +8,11 @@ use mathlib.Core.Path.{◌≡◌, refl, sym, ap, ◌∙◌}
 use borrow.Author.Tests.{ltb-true, ltb-false, eqb-true}
 use lib.Bits.{bit_and, bit_or}
 use lib.Dec.{eqb, ltb}
-use lib.ListN.{get_or, take, drop}
-use lib.Seq.{drop-drop}
-use Rattle.std.proofs.lemmas.List.{get_or-take}
+use lib.ListN.{get_or, drop}
+use lib.Seq.{get_or-drop}
 use Rattle.std.specs.Simd.{first_chunks}
 use Rattle.loops.specs.Loop.{every}
+use Rattle.loops.proofs.Chunks.{piece_at}
 use Rattle.loops.proofs.Tests.{and_left}
 use Rattle.loops.proofs.Turns.{over_none, over_more, every_none, every_on, every_fails, every_same}
 use Rattle.mask.specs.Member.{holds, excluding, less, size}
@@ -116,17 +116,14 @@ pub ruleset gathered_rows = (wrong_none, wrong_more, wrong_all)
 
 -- the rows at database k among all the dependencies
 
-chunk_at : (n m : ℕ) (l : List ℕ) (i : ℕ) → i < m → get_or (first_chunks n m l) i [] ≡ take n (drop (i * n) l)
-chunk_at n zero l i h = absurd (omega arith)
-chunk_at n (suc m) l zero h = let e : 0 * n ≡ 0 = omega arith in rw e
-chunk_at n (suc m) l (suc i) h = chunk_at n m (drop n l) i (omega arith) ∙ ap (take n) (drop-drop (i * n) n l ∙ ap (λ (j : ℕ). drop j l) (omega arith))
-
-rows_first : (rows : List ℕ) (named waiting under : ℕ) → rows_sound (take jobs rows) named waiting under ≡ rows_sound rows named waiting under
+rows_at : (dependencies : List ℕ) (n k named waiting under : ℕ) → k < n
+    → rows_sound (get_or (first_chunks jobs n dependencies) k []) named waiting under ≡ rows_sound (drop (k * jobs) dependencies) named waiting under
 unfolding rows_sound
-rows_first rows named waiting under = every_same jobs _ _ (λ b l. ap (row_sound named waiting under b) (get_or-take jobs rows b 0 l))
+rows_at dependencies n k named waiting under h =
+    every_same jobs _ _ (λ b l. ap (row_sound named waiting under b) (piece_at jobs n dependencies k b 0 h l ∙ sym (get_or-drop (k * jobs) dependencies b 0)))
 
 pub steps_at : (named asked released confirmed held : ℕ) (dependencies : List ℕ) (n k : ℕ) (rows : List (List ℕ)) → rows ≡ first_chunks jobs n dependencies → k < n
     → steps_sound named asked released confirmed held (get_or rows k []) ≡ steps_sound named asked released confirmed held (drop (k * jobs) dependencies)
 unfolding steps_sound
 steps_at named asked released confirmed held dependencies n k rows e l =
-    rw (e, chunk_at jobs n dependencies k l) (ap (λ (b : Bool). marks_sound named asked released confirmed held && b) (rows_first (drop (k * jobs) dependencies) named _ _))
+    rw e (ap (λ (b : Bool). marks_sound named asked released confirmed held && b) (rows_at dependencies n k named _ _ l))

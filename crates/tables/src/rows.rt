@@ -17,6 +17,14 @@ pub(crate) struct Steps {
     pub(crate) under_way: u32,
 }
 
+// One slot's row: who goes before it.
+#[derive(Clone, Copy)]
+struct Row {
+    slot: usize,
+    into: u32,
+    ghost in_range: { slot < jobs },
+}
+
 #[tactic(auto, using(mask::proofs::Union::fold_union))]
 fn are_empty(rows: &[u32; Slot::COUNT]) -> bool
     ensures { result ≡ (union_of jobs (entry rows.now) == 0) }
@@ -25,13 +33,12 @@ fn are_empty(rows: &[u32; Slot::COUNT]) -> bool
 }
 
 impl Steps {
-    // Who may go before slot b, and who has to. By bits: with `holds` and `without_member` the rows took four times as long (tried), since LLVM then tests them one by one.
+    // Who may go before the row's slot, and who has to. By bits: with `holds` and `without_member` the rows took four times as long (tried), since LLVM then tests them one by one.
     #[tactic(auto, using(crate::proofs::Testing::shifts), unfolding(crate::specs::Test::partners))]
-    fn partners(self, b: usize) -> u32
-        requires { b < jobs }
-        ensures { result ≡ partners self.named b }
+    fn partners(self, row: Row) -> u32
+        ensures { result ≡ partners self.named row.slot }
     {
-        let at = 1u32 << b;
+        let at = 1u32 << row.slot;
         if self.named & at != 0 {
             self.named.less(at)
         } else {
@@ -39,25 +46,24 @@ impl Steps {
         }
     }
 
+    // By bits for the same reason.
     #[tactic(auto, using(crate::proofs::Testing::shifts), unfolding(crate::specs::Test::pressing))]
-    fn pressing(self, b: usize) -> u32
-        requires { b < jobs }
-        ensures { result ≡ pressing self.waiting self.under_way b }
+    fn pressing(self, row: Row) -> u32
+        ensures { result ≡ pressing self.waiting self.under_way row.slot }
     {
-        if self.waiting & 1 << b != 0 {
+        if self.waiting & 1 << row.slot != 0 {
             self.under_way
         } else {
             0
         }
     }
 
-    // Those that go before slot b and may not, and those that have to and do not.
+    // Those that go before the slot and may not, and those that have to and do not.
     #[tactic(auto, unfolding(crate::specs::Parts::row_wrong))]
-    fn row_wrong(self, b: usize, into: u32) -> u32
-        requires { b < jobs }
-        ensures { result ≡ row_wrong self.named self.waiting self.under_way b into }
+    fn row_wrong(self, row: Row) -> u32
+        ensures { result ≡ row_wrong self.named self.waiting self.under_way row.slot row.into }
     {
-        into.less(self.partners(b)) | self.pressing(b).less(into)
+        row.into.less(self.partners(row)) | self.pressing(row).less(row.into)
     }
 
     // Row by row. What is wrong is gathered without a branch.
@@ -66,8 +72,9 @@ impl Steps {
         ensures { result ≡ rows_sound rows.now self.named self.waiting self.under_way }
     {
         let mut wrong = 0;
-        for (b, into) in rows.iter().enumerate() {
-            wrong |= self.row_wrong(b, *into);
+        for (slot, into) in rows.iter().enumerate() {
+            let row = Row { slot, into: *into };
+            wrong |= self.row_wrong(row);
         }
         wrong == 0
     }
