@@ -37,7 +37,7 @@ impl Tables<'_> {
         true
     }
 
-    // The steps at database k, where these are its dependencies.
+    // The steps at database k, whose rows these are.
     fn steps_at(self, k: usize, rows: &[u32; Slot::COUNT]) -> bool
         requires { k < databases }
         ensures { let t = self.entry in result ≡ steps_sound (entry t.named.now k) (entry t.asked.now k) (entry t.released.now k) (entry t.confirmed.now k) t.held rows.now }
