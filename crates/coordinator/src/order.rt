@@ -1,5 +1,5 @@
 // The opening order: where a slot stands in it, and the order without that place.
-ghost use Rattle.std.specs.Prelude.{not, ◌≡◌, ◌+◌, ◌*◌, ◌^◌, ◌<◌, eqb, ltb, length};
+ghost use Rattle.std.specs.Prelude.{not, ◌≡◌, ◌+◌, ◌<◌, eqb, ltb};
 ghost use Rattle.loops.specs.Sum.{tally};
 ghost use Rattle.mask.specs.Member.{lowest};
 ghost use Rattle.mask.specs.Members.{gather};

@@ -25,6 +25,7 @@ struct Row {
     ghost in_range: { slot < jobs },
 }
 
+// As `slots::open_slots` of a state: a chain of one line each.
 #[tactic(auto, using(mask::proofs::Union::fold_union))]
 fn are_empty(rows: &[u32; Slot::COUNT]) -> bool
     ensures { result ≡ (union_of jobs (entry rows.now) == 0) }
