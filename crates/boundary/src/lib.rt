@@ -6,8 +6,7 @@ mod records;
 mod row;
 mod state;
 
-ghost use Rattle.std.specs.Prelude.{◌≡◌, []};
-ghost use Rattle.std.specs.Prelude.{Some};
+ghost use Rattle.std.specs.Prelude.{◌≡◌, [], Some};
 ghost use Rattle.coordinator.specs.Call.{open_job, ask_step, confirm_step, close_job};
 ghost use Rattle.record.specs.Request.{call};
 ghost use Rattle.boundary.specs.Outcome.{records_played, called, started, moves_at_most};

@@ -2,7 +2,6 @@
 use mathlib.Core.Path.{◌≡◌, sym, ◌∙◌}
 use mathlib.Core.Bool.{Bool, not, ◌&&◌}
 use Prim.Native.Nat.{ℕ, ◌+◌, ◌*◌, ◌^◌, ◌<◌}
-use native.Mathlib.Omega.{arith}
 use lib.Bits.{bit_and, and_lt}
 use Rattle.loops.specs.Sum.{tally}
 use Rattle.mask.specs.Member.{holds, less, within}

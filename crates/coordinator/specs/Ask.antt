@@ -1,6 +1,5 @@
 -- Asking for a step. Assumes nothing: these are definitions.
-use Rattle.std.specs.Prelude.{ℕ, Bool, true, false}
-use Rattle.std.specs.Prelude.{Option, None, Some}
+use Rattle.std.specs.Prelude.{ℕ, Bool, true, false, Option, None, Some, Ok, Err}
 use Rattle.coordinator.specs.declared.Coordinator.{Coordinator}
 use Rattle.coordinator.specs.Holder.{holder}
 use Rattle.coordinator.specs.Refusal.{ask_refusal, ask_refusal_tested}
@@ -9,7 +8,6 @@ use Rattle.coordinator.specs.Release.{may_go, release}
 use Rattle.coordinator.specs.declared.answers.After.{After}
 use Rattle.coordinator.specs.declared.answers.Asked.{Asked}
 use Rattle.refusals.specs.declared.refusal.Refusal.{Refusal}
-use Rattle.std.specs.Prelude.{Ok, Err}
 
 -- mark the step asked; if it may go, release it
 unfoldable pub asked_for : Coordinator → ℕ → ℕ → After Asked

@@ -1,5 +1,5 @@
 -- The calls as values, and what a sequence of them answers. Assumes nothing: these are definitions.
-use Rattle.std.specs.Prelude.{ℕ, List, [], ◌∷◌}
+use Rattle.std.specs.Prelude.{ℕ, List, [], ◌∷◌, Option}
 use Rattle.coordinator.specs.declared.Coordinator.{Coordinator}
 use Rattle.coordinator.specs.Open.{after_open}
 use Rattle.coordinator.specs.Ask.{after_ask}
@@ -11,7 +11,6 @@ use Rattle.coordinator.specs.declared.answers.Opened.{Opened}
 use Rattle.coordinator.specs.declared.answers.Asked.{Asked}
 use Rattle.coordinator.specs.declared.answers.Closed.{Closed}
 use Rattle.numbers.specs.declared.Ticket.{Ticket}
-use Rattle.std.specs.Prelude.{Option}
 
 -- a mask; a ticket and a database; a ticket
 pub data Call : Type 0 where

@@ -1,6 +1,5 @@
 -- Closing a job, and the held closes that may go then. Assumes nothing: these are definitions.
-use Rattle.std.specs.Prelude.{ℕ, zero, suc, Bool, true, false, List, eqb, set, replicate}
-use Rattle.std.specs.Prelude.{Option, None, Some}
+use Rattle.std.specs.Prelude.{ℕ, zero, suc, Bool, true, false, List, eqb, set, replicate, Option, None, Some, Ok, Err}
 use Rattle.coordinator.specs.declared.Coordinator.{Coordinator}
 use Rattle.coordinator.specs.Limits.{jobs}
 use Rattle.coordinator.specs.Views.{ticket}
@@ -11,7 +10,6 @@ use Rattle.coordinator.specs.Release.{may_close, may_close_now, first_of}
 use Rattle.coordinator.specs.declared.answers.After.{After}
 use Rattle.coordinator.specs.declared.answers.Closed.{Closed}
 use Rattle.refusals.specs.declared.refusal.Refusal.{Refusal}
-use Rattle.std.specs.Prelude.{Ok, Err}
 
 -- how many jobs are closed so far, their tickets in order, and the state left
 pub record Closing : Type 0 where

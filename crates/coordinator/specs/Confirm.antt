@@ -1,6 +1,5 @@
 -- Confirming a step. Assumes nothing: these are definitions.
-use Rattle.std.specs.Prelude.{ℕ, Bool, true, false, eqb}
-use Rattle.std.specs.Prelude.{Option, None, Some}
+use Rattle.std.specs.Prelude.{ℕ, Bool, true, false, eqb, Option, None, Some, Ok, Err}
 use Rattle.coordinator.specs.declared.Coordinator.{Coordinator}
 use Rattle.coordinator.specs.Views.{ticket}
 use Rattle.coordinator.specs.Holder.{holder}
@@ -10,7 +9,6 @@ use Rattle.coordinator.specs.Release.{release, may_go_at, first_of}
 use Rattle.coordinator.specs.declared.answers.After.{After}
 use Rattle.numbers.specs.declared.Ticket.{Ticket}
 use Rattle.refusals.specs.declared.refusal.Refusal.{Refusal}
-use Rattle.std.specs.Prelude.{Ok, Err}
 
 -- release the step of slot j at database k, and say whose it is
 unfoldable pub released_one : Coordinator → ℕ → ℕ → After (Option Ticket)

@@ -1,6 +1,5 @@
 -- Opening a job. Assumes nothing: these are definitions.
-use Rattle.std.specs.Prelude.{ℕ, ◌+◌, ◌-◌, ◌^◌, Bool, List}
-use Rattle.std.specs.Prelude.{Option, None, Some}
+use Rattle.std.specs.Prelude.{ℕ, ◌+◌, ◌-◌, ◌^◌, Bool, List, Option, None, Some, Ok, Err}
 use Rattle.loops.specs.Loop.{over}
 use Rattle.loops.specs.Sum.{sum}
 use Rattle.loops.specs.Table.{table}
@@ -18,7 +17,6 @@ use Rattle.coordinator.specs.Refusal.{open_refusal, open_refusal_tested}
 use Rattle.coordinator.specs.declared.answers.After.{After}
 use Rattle.coordinator.specs.declared.answers.Opened.{Opened}
 use Rattle.refusals.specs.declared.refusal.Refusal.{Refusal}
-use Rattle.std.specs.Prelude.{Ok, Err}
 
 -- the lowest free slot
 unfoldable pub free_slot : Coordinator → ℕ

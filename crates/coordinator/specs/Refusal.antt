@@ -1,6 +1,5 @@
 -- The refusal of each call: document 01's table, of a state. The rows themselves stand in crate `refusals`. Assumes nothing: these are definitions.
-use Rattle.std.specs.Prelude.{ℕ, Bool, not, ◌||◌}
-use Rattle.std.specs.Prelude.{Option}
+use Rattle.std.specs.Prelude.{ℕ, Bool, not, ◌||◌, Option}
 use Rattle.loops.specs.Loop.{every}
 use Rattle.refusals.specs.declared.refusal.Refusal.TheVariants.{AskedBefore, Settled}
 pub use Rattle.refusals.specs.Refusal.{Row, slot_rows, step_rows, job_rows}

@@ -1,5 +1,5 @@
 // What an opening does to the tables. Each function is lent the tables that it needs and not the state: so it shows that it leaves the others.
-ghost use Rattle.std.specs.Prelude.{◌≡◌, ℕ};
+ghost use Rattle.std.specs.Prelude.{◌≡◌};
 ghost use Rattle.loops.specs.Loop.{over};
 ghost use Rattle.mask.specs.Members.{over_members};
 ghost use Rattle.coordinator.specs.Limits.{databases};

@@ -36,7 +36,8 @@ pub(crate) fn may_close(dependencies: &[u32; Coordinator::STEPS], job: Job) -> b
     ensures { result ≡ may_close_in dependencies.now job.slot.0 }
 {
     let b = job.slot.0 as usize;
-    (0..Coordinator::DATABASES).all(|k| dependencies[k * Coordinator::JOBS + b] == 0)
+    let (by_database, _) = dependencies.as_chunks::<{ Coordinator::JOBS }>();
+    by_database.iter().all(|rows| rows[b] == 0)
 }
 
 // The held closes that may go. Only held slots are looked at, and not all as by mask::gathered: mostly there are few.

@@ -16,7 +16,7 @@ pub(crate) fn may_go(into: u32, confirmed: u32) -> bool
     into & !confirmed == 0
 }
 
-// The step's job joins the set at its database.
+// The step's job joins the set at its database. By a shift, here and in `lead_to`: `with_member` would test again that it is a slot.
 pub(crate) fn mark(sets: &mut [u32; Coordinator::DATABASES], step: Step)
     ensures { sets.new ≡ mark sets.old step.database.0 step.slot.0 }
 {

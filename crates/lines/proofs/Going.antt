@@ -59,9 +59,6 @@ pub record Going (index : ℕ) (s : Coordinator) (b o₀ o : List ℕ) (t : Coor
   pub text : put o w (lines_of i t (drop at b)) ≡ put o₀ 0 (lines_of index s b)
   pub left : state_after t (drop at b) ≡ state_after s b
 
-pub start : (index : ℕ) (s : Coordinator) (b o : List ℕ) → Going index s b o o s index 0 0
-start index s b o = record { here = omega arith; count = omega arith; room = omega arith; long = refl; size = omega arith; text = refl; left = refl }
-
 -- what is returned and left, from its parts
 ended : (s : Coordinator) (index : ℕ) (b o₀ : List ℕ) (t : Coordinator) (i w : ℕ) (o : List ℕ) → t ≡ state_after s b → i ≡ index + lines_in b → w ≡ length (lines_of index s b) →
     o ≡ put o₀ 0 (lines_of index s b) → ◌≡◌ {A = Playing} (record { played = Some (record { index = i; wrote = w }); state = t; out = o }) (all s index b o₀)

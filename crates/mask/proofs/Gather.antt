@@ -72,10 +72,6 @@ module _ (p : ℕ → Bool) where
     λ e. same_members n _ 0 (gathered_lt n) (pow_pos n) (λ j l. holds_gather n j l ∙ e j l ∙ sym (holds_none j)),
   )
 
--- a set is what its members gather
-pub gather_members : (n m : ℕ) → m < 2 ^ n → gather n (λ j. tally (holds m j)) ≡ m
-gather_members n m h = same_members n _ m (gathered_lt (holds m) n) h (λ j l. holds_gather (holds m) n j l)
-
 -- for the gathering loop: its start, a turn, its end
 pub gather_none : (d : ℕ → ℕ) → 0 ≡ gather 0 d
 unfolding gather over

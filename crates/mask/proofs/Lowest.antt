@@ -1,5 +1,5 @@
 -- Trailing zeros find the lowest member; those of the complement find the lowest number that is missing. Assumes nothing.
-use Rattle.std.proofs.Common.{◌≡◌, ℕ, zero, suc, ◌-◌, ◌*◌, ◌/◌, ◌%◌, ◌^◌, ◌<◌, ◌≤◌, true, false, ◌↔◌, sym, refl, ◌∙◌, le_antisymm, pow-suc, arith, pow_pos}
+use Rattle.std.proofs.Common.{◌≡◌, ℕ, zero, suc, ◌-◌, ◌*◌, ◌/◌, ◌%◌, ◌^◌, ◌<◌, ◌≤◌, true, false, sym, refl, ◌∙◌, le_antisymm, pow-suc, arith, pow_pos}
 use native.Mathlib.Decide.{dec_lt}
 use borrow.Author.Tests.{eqb-false, not-true}
 use lib.Count.{count_trailing_zeros, under, trailing_le}
@@ -8,7 +8,7 @@ use Rattle.mask.specs.Member.{digit, holds, less, within, lowest}
 use Rattle.mask.specs.Lowest.{Lowest, Free}
 use Rattle.std.proofs.lemmas.Nat.Bits.{bit_at-lt, bit_at-suc, bit_at_lowest}
 use Rattle.mask.proofs.Change.{digit_not, less_lt}
-use Rattle.mask.proofs.Holds.{holds_of, holds_not, holds_pos, holds_all, holds_less_any}
+use Rattle.mask.proofs.Holds.{holds_of, holds_not, holds_pos, holds_less_any}
 
 pub trailing_lowest : (n m : ℕ) → 0 < m → m < 2 ^ n → Lowest n m (lowest n m)
 unfolding count_trailing_zeros
@@ -79,12 +79,3 @@ free_of n m h =
 
 pub free_holds : {n m w : ℕ} → Free n m w → holds m w ≡ false
 free_holds {n} {m} {w} f = holds_not m w f.off
-
--- below n some number is missing just where m is not full
-pub missing_iff : (n m : ℕ) → m < 2 ^ n → (m < 2 ^ n - 1) ↔ ((j : ℕ) × (j < n) × (holds m j ≡ false))
-missing_iff n m h = (λ l. let f = free_of n m l in (_, f.within, free_holds f), λ e. not_full e.0 e.1 e.2)
-  where
-    not_full : (j : ℕ) → j < n → holds m j ≡ false → m < 2 ^ n - 1
-    not_full j l e =
-        let ne : ¬ (m ≡ 2 ^ n - 1) = λ p. both (holds_all n j l) (rw p at e) in
-        omega arith

@@ -1,15 +1,13 @@
 -- Walking the members of a set from low to high is the loop over all numbers, guarded by membership. Assumes nothing.
-use Rattle.std.proofs.Common.{◌≡◌, ℕ, zero, suc, ◌^◌, ◌<◌, eqb, ◌⊎◌, sym, refl, ap, ◌∙◌, inl, inr, le_refl, not-suc-le-zero, arith, pow_pos}
+use Rattle.std.proofs.Common.{◌≡◌, ℕ, zero, suc, ◌<◌, eqb, ◌⊎◌, sym, refl, ap, ◌∙◌, inl, inr, le_refl, not-suc-le-zero, arith, pow_pos}
 use Rattle.loops.specs.Loop.{over, guard}
 use Rattle.loops.proofs.Rules.{guard_yes, guard_no, below_suc}
-use Rattle.mask.specs.Member.{digit, holds, excluding, lowest}
+use Rattle.mask.specs.Member.{digit, holds, excluding}
 use Rattle.mask.specs.Members.{over_members}
 use Rattle.mask.specs.Lowest.{Lowest}
 use Rattle.std.proofs.lemmas.Nat.Bits.{bit_at-zero}
 use Rattle.mask.proofs.Change.{excluding_same, excluding_other, member_le}
-use Rattle.mask.proofs.Holds.{holds_of, holds_not, holds_below, digit_on}
-use Rattle.mask.proofs.Equal.{below_iff}
-use Rattle.mask.proofs.Lowest.{trailing_lowest}
+use Rattle.mask.proofs.Holds.{holds_of, holds_not}
 
 -- a walk ends: what is left weighs less
 pub rest_falls : {n m w : ℕ} → Lowest n m w → excluding m w < m
@@ -65,19 +63,6 @@ module _ {S : Type 0} (f : ℕ → S → S) where
       where
         back : (j : ℕ) → digit (excluding m w) j ≡ 1 → digit m j ≡ 1
         back j e = sym (excluding_other m w j (λ q. let z : digit (excluding m w) j ≡ 0 = rw q (excluding_same m w) in omega arith)) ∙ e
-
-    -- the turn of `while m != 0 { let w = lowest(m); t = f(w, t); m = rest(m); }`, where the walked set has n digits
-
-    module _ (m w : ℕ) (t : S) (b : m₀ < 2 ^ n) (ne : ¬ (m ≡ 0)) (h : Left n m₀ s m t) (e : w ≡ lowest n m) where
-      pub left_lowest : Lowest n m w
-      left_lowest =
-          rw e (trailing_lowest n m (omega arith) ((below_iff n m).1 (λ j p. holds_below n m₀ j b (holds_of m₀ j (h.among j (digit_on m j p))))))
-
-      pub left_rest : (k : ℕ) (r : S) → k ≡ excluding m (lowest n m) → r ≡ f w t → Left n m₀ s k r
-      left_rest k r p q = left_turn m w t left_lowest h k r (rw e p) q
-
-      pub left_falls : (k : ℕ) → k ≡ excluding m (lowest n m) → k < m
-      left_falls k p = rw (p, ← e) (rest_falls left_lowest)
 
     pub left_done : (m : ℕ) (t : S) → m ≡ 0 → Left n m₀ s m t → t ≡ over_members n m₀ f s
     left_done m t z h = sym (over_members_none n t) ∙ rw z at h.same

@@ -1,5 +1,4 @@
 // The members of a set, from the lowest to the highest.
-ghost use Rattle.std.specs.Prelude.{◌≡◌};
 ghost use Rattle.std.specs.Iterator.{at_most};
 ghost use Rattle.mask.specs.Members.{Takes};
 

@@ -3,7 +3,7 @@ use Prim.Native.Nat.{ℕ, zero, suc, ◌≤◌}
 use mathlib.Core.Path.{◌≡◌, refl, sym, ◌∙◌}
 use mathlib.Core.Bool.{Bool, true, false}
 use mathlib.Core.List.{List, [], ◌∷◌}
-use Rattle.std.specs.Prelude.{Option, None, Some}
+use Rattle.std.specs.Prelude.{Option, None, Some, Result, Err}
 use native.Mathlib.Omega.{arith}
 use lib.Dec.{eqb}
 use lib.ListN.{get_or, take, replicate}
@@ -19,7 +19,6 @@ use Rattle.coordinator.specs.Close.{Closing, close_one, close_held, closing, clo
 use Rattle.coordinator.specs.declared.answers.After.{After}
 use Rattle.coordinator.specs.declared.answers.Closed.{Closed as Declared}
 use Rattle.refusals.specs.declared.refusal.Refusal.{Refusal}
-use Rattle.std.specs.Prelude.{Result, Err}
 use Rattle.record.specs.Row.{tickets_of}
 
 -- no tickets, and an array of zeros

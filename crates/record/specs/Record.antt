@@ -1,6 +1,5 @@
 -- A record of four bytes as a call. Assumes nothing: these are definitions.
-use Rattle.std.specs.Prelude.{ℕ, ◌+◌, ◌*◌, true, false, eqb}
-use Rattle.std.specs.Prelude.{Option, None, Some}
+use Rattle.std.specs.Prelude.{ℕ, ◌+◌, ◌*◌, true, false, eqb, Option, None, Some}
 use Rattle.coordinator.specs.Call.{Call, open_job, ask_step, confirm_step, close_job}
 
 -- 1 opens, 2 asks, 3 confirms, 4 closes; the value is a mask for 1, a ticket otherwise; the database is not read for 1 and 4. No other kind is a call.

@@ -1,6 +1,5 @@
 -- What the code reads in a record's four bytes. Assumes nothing: these are definitions.
-use Rattle.std.specs.Prelude.{ℕ, List, get_or}
-use Rattle.std.specs.Prelude.{Option, None, Some, Result, Ok, Err}
+use Rattle.std.specs.Prelude.{ℕ, List, get_or, Option, None, Some, Result, Ok, Err}
 use Rattle.coordinator.specs.Call.{Call, open_job, ask_step, confirm_step, close_job}
 use Rattle.record.specs.Record.{two_bytes, call_of}
 use Rattle.record.specs.declared.request.Request.{Request}

@@ -1,6 +1,5 @@
 -- The tickets in the row that an answer is. Assumes nothing: these are definitions.
-use Rattle.std.specs.Prelude.{ℕ, List, replicate}
-use Rattle.std.specs.Prelude.{Option, None, Some, Result, Ok, Err}
+use Rattle.std.specs.Prelude.{ℕ, List, replicate, Option, None, Some, Result, Ok, Err}
 use Rattle.coordinator.specs.Limits.{jobs}
 use Rattle.coordinator.specs.declared.answers.Closed.{Closed}
 use Rattle.refusals.specs.declared.refusal.Refusal.{Refusal}

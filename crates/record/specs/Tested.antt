@@ -1,6 +1,5 @@
 -- What a record answers given whether the state is sound, and how the code tells it. Assumes nothing: these are definitions.
-use Rattle.std.specs.Prelude.{ℕ, Bool, ◌≡◌, get_or}
-use Rattle.std.specs.Prelude.{Option, None, Some}
+use Rattle.std.specs.Prelude.{ℕ, Bool, ◌≡◌, get_or, Option, None, Some}
 use Rattle.coordinator.specs.declared.Coordinator.{Coordinator}
 use Rattle.coordinator.specs.Open.{after_open_tested}
 use Rattle.coordinator.specs.Ask.{after_ask_tested}

@@ -21,6 +21,8 @@ impl Tested {
     ghost use Rattle.record.specs.Request.{requested};
     ghost use Rattle.record.specs.Tested.{Plays};
 
+    // Inlined, so that the state is copied once less.
+    #[inline(always)]
     pub fn new(state: Coordinator) -> Tested
         ensures { result.state ≡ state }
     {

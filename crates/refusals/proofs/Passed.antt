@@ -1,10 +1,9 @@
 -- What it tells that no row applies: what the rows ask for is there. Assumes nothing.
 use mathlib.Core.Path.{◌≡◌}
-use mathlib.Core.Bool.{Bool, not}
+use mathlib.Core.Bool.{Bool}
 use Rattle.std.specs.Prelude.{None}
 use Prim.Native.Nat.{ℕ, ◌<◌}
 use borrow.Author.Tests.{eqb-false, ltb-true, not-false}
-use lib.Dec.{eqb, ltb}
 use Rattle.tables.specs.Limits.{jobs, databases}
 use Rattle.refusals.specs.declared.refusal.Refusal.{Refusal}
 use Rattle.refusals.specs.Refusal.{slot_refusal, step_refusal, job_refusal}

@@ -1,12 +1,11 @@
 -- Going down the rows of a table of refusals: what the outcome that the code gives back tells. Assumes nothing.
-use mathlib.Core.Path.{◌≡◌, refl, sym, ap}
+use mathlib.Core.Path.{◌≡◌, refl}
 use mathlib.Core.Bool.{Bool, true, false, not}
-use mathlib.Core.List.{List, [], ◌∷◌}
-use Rattle.std.specs.Prelude.{Option, None, Some}
+use mathlib.Core.List.{List, ◌∷◌}
+use Rattle.std.specs.Prelude.{Option, None, Some, Result, Ok, Err}
 use Prim.Native.Nat.{ℕ, ◌<◌}
 use borrow.Author.Tests.{ltb-true}
 use lib.Dec.{eqb, ltb}
-use Rattle.std.specs.Prelude.{Result, Ok, Err}
 use Rattle.tables.specs.Limits.{databases}
 use Rattle.refusals.specs.declared.refusal.Refusal.{Refusal}
 use Rattle.refusals.specs.declared.refusal.Refusal.TheVariants.{Unsound, NoJob, NoDatabase}
@@ -21,10 +20,6 @@ not_refused (Some r) u e = absurd cc
 pub refused : (o : Option Refusal) (r : Refusal) → ◌≡◌ {A = Result (Unit {0}) Refusal} (Err r) (outcome o) → o ≡ Some r
 refused None r e = absurd cc
 refused (Some m) r e = cc
-
-pub no_row : first_row [] ≡ None
-unfolding first_row
-no_row = refl
 
 -- where no row applies the first does not, and none below it
 pub passed : (r : Row) (rows : List Row) → first_row (r ∷ rows) ≡ None → (r.applies ≡ false) × (first_row rows ≡ None)

@@ -1,6 +1,5 @@
 -- The rows of document 01's table of refusals, in order, and the first that applies. Assumes nothing: these are definitions.
-use Rattle.std.specs.Prelude.{ℕ, Bool, true, false, not, List, [], ◌∷◌, eqb, ltb}
-use Rattle.std.specs.Prelude.{Option, None, Some}
+use Rattle.std.specs.Prelude.{ℕ, Bool, true, false, not, List, [], ◌∷◌, eqb, ltb, Option, None, Some}
 use Rattle.tables.specs.Limits.{jobs, databases}
 use Rattle.refusals.specs.declared.refusal.Refusal.{Refusal}
 use Rattle.refusals.specs.declared.refusal.Refusal.TheVariants.{NamesNone, Full, NoJob, NoDatabase, NotNamed, Unfinished, CloseHeld, Unsound}

@@ -120,7 +120,7 @@ impl Walker<'_> {
     }
 }
 
-// Database u is ahead of each of the slots.
+// Database u is ahead of each of the slots. By a shift, as all that is put in here: `with_member` would test again what is known.
 #[tactic(auto, using(mask::proofs::Walking::left_done), unfolding(crate::specs::Visit::put_ahead))]
 fn put_ahead(ahead: &mut [u16; Slot::COUNT], slots: u32, u: usize)
     requires { u < databases }

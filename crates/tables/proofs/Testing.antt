@@ -3,14 +3,16 @@ use Prim.Native.Nat.{ℕ, ◌+◌, ◌-◌, ◌*◌, ◌%◌, ◌^◌, ◌<◌, 
 use native.Mathlib.Nat.{le_antisymm}
 use native.Mathlib.Omega.{arith}
 use mathlib.Core.Bool.{Bool, true, false, ◌&&◌}
-use mathlib.Core.List.{List}
+use mathlib.Core.List.{List, []}
 use mathlib.Core.Path.{◌≡◌, refl, sym, ap, ◌∙◌}
 use borrow.Author.Tests.{ltb-true, ltb-false, eqb-true}
 use lib.Bits.{bit_and, bit_or}
 use lib.Dec.{eqb, ltb}
-use lib.ListN.{take}
-use Rattle.std.proofs.lemmas.List.{get_or-take}
+use lib.ListN.{get_or, drop}
+use lib.Seq.{get_or-drop}
+use Rattle.std.specs.Simd.{first_chunks}
 use Rattle.loops.specs.Loop.{every}
+use Rattle.loops.proofs.Chunks.{piece_at}
 use Rattle.loops.proofs.Tests.{and_left}
 use Rattle.loops.proofs.Turns.{over_none, over_more, every_none, every_on, every_fails, every_same}
 use Rattle.mask.specs.Member.{holds, excluding, less, size}
@@ -112,13 +114,16 @@ module _ (rows : List ℕ) (named waiting under : ℕ) where
 
 pub ruleset gathered_rows = (wrong_none, wrong_more, wrong_all)
 
--- the rows of a database among all the dependencies
-rows_first : (rows : List ℕ) (named waiting under : ℕ) → rows_sound (take jobs rows) named waiting under ≡ rows_sound rows named waiting under
-unfolding rows_sound
-rows_first rows named waiting under = every_same jobs _ _ (λ b l. ap (row_sound named waiting under b) (get_or-take jobs rows b 0 l))
+-- the rows at database k among all the dependencies
 
-pub steps_first : (named asked released confirmed held : ℕ) (rows : List ℕ) (n : ℕ) → n ≡ jobs
-    → steps_sound named asked released confirmed held (take n rows) ≡ steps_sound named asked released confirmed held rows
+rows_at : (dependencies : List ℕ) (n k named waiting under : ℕ) → k < n
+    → rows_sound (get_or (first_chunks jobs n dependencies) k []) named waiting under ≡ rows_sound (drop (k * jobs) dependencies) named waiting under
+unfolding rows_sound
+rows_at dependencies n k named waiting under h =
+    every_same jobs _ _ (λ b l. ap (row_sound named waiting under b) (piece_at jobs n dependencies k b 0 h l ∙ sym (get_or-drop (k * jobs) dependencies b 0)))
+
+pub steps_at : (named asked released confirmed held : ℕ) (dependencies : List ℕ) (n k : ℕ) (rows : List (List ℕ)) → rows ≡ first_chunks jobs n dependencies → k < n
+    → steps_sound named asked released confirmed held (get_or rows k []) ≡ steps_sound named asked released confirmed held (drop (k * jobs) dependencies)
 unfolding steps_sound
-steps_first named asked released confirmed held rows n e =
-    rw e (ap (λ (b : Bool). marks_sound named asked released confirmed held && b) (rows_first rows named _ _))
+steps_at named asked released confirmed held dependencies n k rows e l =
+    rw e (ap (λ (b : Bool). marks_sound named asked released confirmed held && b) (rows_at dependencies n k named _ _ l))

@@ -1,10 +1,10 @@
 // The marks of the steps at one database.
-ghost use Rattle.std.specs.Prelude.{◌≡◌, length};
-ghost use Rattle.tables.specs.Limits.{jobs};
+ghost use Rattle.std.specs.Prelude.{◌≡◌};
 ghost use Rattle.tables.specs.Test.{marks_sound, steps_sound};
 
 use crate::rows::Steps;
 use mask::Set;
+use numbers::Slot;
 
 // The slots whose job names the database, and those whose step there is asked, released, confirmed.
 #[derive(Clone, Copy)]
@@ -30,8 +30,7 @@ impl Marks {
 
     // The marks, and the dependencies at the database.
     #[tactic(auto, unfolding(crate::specs::Test::steps_sound))]
-    pub(crate) fn steps_sound(self, held: u32, rows: &[u32]) -> bool
-        requires { length rows.now ≡ jobs }
+    pub(crate) fn steps_sound(self, held: u32, rows: &[u32; Slot::COUNT]) -> bool
         ensures { result ≡ steps_sound self.named self.asked self.released self.confirmed held rows.now }
     {
         let steps = Steps {

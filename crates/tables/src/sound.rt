@@ -2,7 +2,8 @@
 ghost use Rattle.std.specs.Prelude.{◌≡◌, ◌<◌};
 ghost use Rattle.loops.specs.Loop.{every};
 ghost use Rattle.tables.specs.Limits.{jobs, databases};
-ghost use Rattle.tables.specs.Test.{place_sound, database_sound, sound_in};
+ghost use Rattle.tables.specs.Tables.{entry};
+ghost use Rattle.tables.specs.Test.{place_sound, steps_sound, database_sound, sound_in};
 ghost use Rattle.tables.specs.Parts.{place_in};
 
 use crate::marks::Marks;
@@ -36,11 +37,10 @@ impl Tables<'_> {
         true
     }
 
-    // The steps at database k.
-    #[tactic(auto, using(crate::proofs::Testing::steps_first), unfolding(crate::specs::Test::database_sound))]
-    fn database_sound(self, k: usize) -> bool
+    // The steps at database k, whose rows these are.
+    fn steps_at(self, k: usize, rows: &[u32; Slot::COUNT]) -> bool
         requires { k < databases }
-        ensures { let t = self.entry in result ≡ database_sound t.held t.named.now t.asked.now t.released.now t.confirmed.now t.dependencies.now k }
+        ensures { let t = self.entry in result ≡ steps_sound (entry t.named.now k) (entry t.asked.now k) (entry t.released.now k) (entry t.confirmed.now k) t.held rows.now }
     {
         let marks = Marks {
             named: self.named[k],
@@ -48,15 +48,18 @@ impl Tables<'_> {
             released: self.released[k],
             confirmed: self.confirmed[k],
         };
-        let dependencies = self.dependencies;
-        let first = k * Slot::COUNT;
-        marks.steps_sound(self.held, &dependencies[first..first + Slot::COUNT])
+        marks.steps_sound(self.held, rows)
     }
 
     fn databases_sound(self) -> bool
         ensures { let t = self.entry in result ≡ every databases (database_sound t.held t.named.now t.asked.now t.released.now t.confirmed.now t.dependencies.now) }
     {
-        (0..Database::COUNT).all(|k| self.database_sound(k))
+        let dependencies = self.dependencies;
+        let (by_database, _) = dependencies.as_chunks::<{ Slot::COUNT }>();
+        by_database
+            .iter()
+            .enumerate()
+            .all(|(k, rows)| self.steps_at(k, rows))
     }
 
     // All of it.

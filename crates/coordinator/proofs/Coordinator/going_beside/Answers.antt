@@ -1,4 +1,4 @@
-use Rattle.std.proofs.Common.{◌≡◌, ◌+◌, ◌*◌, ◌^◌, ◌<◌, rules}
+use Rattle.std.proofs.Common.{◌+◌, ◌*◌, ◌^◌, ◌<◌, rules}
 use borrow.Author.Tests.{tests}
 use Rattle.mask.specs.Member.{within}
 use Rattle.coordinator.specs.Limits.{jobs}
