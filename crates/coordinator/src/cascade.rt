@@ -7,7 +7,7 @@ use crate::steps::Job;
 use crate::{Coordinator, may_close, slots};
 
 impl Coordinator {
-    // Closes the job; then, as long as some held close may go, the first of these. Which may go is asked anew after each, so this is no `for`; the tickets are an array, since there is no heap.
+    // Closes the job; then, as long as some held close may go, the first of these. Which may go is asked anew after each, so this is no `for`, and the first is a set by a shift, since it is a slot; the tickets are an array, since there is no heap.
     pub(crate) fn close_from(&mut self, job: Job) -> Closed
         ensures { ◌≡◌ {A = Closing} (record { count = result.count; tickets = result.tickets; state = self.new }) (closing self.old job.slot.0) }
     {

@@ -25,6 +25,7 @@ use numbers::{Database, NumberMaker, Slot, Ticket};
 
 // The state, by sets of slots. At database k: the slots whose job names k, and those whose step there is asked, released, confirmed.
 // At k * JOBS + b: the slots that go before slot b at k. By slot: the job's ticket, whether its close is held. Then the opening order.
+// Numbers become indices by `as`, here and below: it is proved to lose nothing, and `usize::from` says no more.
 // Arrays beside each other, the opening order with zeros after it, and one table for both sides: the definitions and the bytes for C have them so.
 #[derive(Clone, Copy, Debug, PartialEq, Eq)]
 pub struct Coordinator {

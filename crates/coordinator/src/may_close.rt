@@ -40,7 +40,7 @@ pub(crate) fn may_close(dependencies: &[u32; Coordinator::STEPS], job: Job) -> b
     by_database.iter().all(|rows| rows[b] == 0)
 }
 
-// The held closes that may go. Only held slots are looked at, and not all as by mask::gathered: mostly there are few.
+// The held closes that may go. Only held slots are looked at, and not all as by mask::gathered: mostly there are few. Each goes to its place by a shift, as `gathered` does it.
 pub(crate) fn may_close_now(dependencies: &[u32; Coordinator::STEPS], held: u32) -> u32
     ensures { result ≡ may_close_now_in dependencies.now held }
 {

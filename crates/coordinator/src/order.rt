@@ -19,7 +19,7 @@ pub(crate) fn place(order: &[u8; Coordinator::JOBS], j: Slot) -> usize
     places.lowest() as usize
 }
 
-// What comes to stand at place i when those after p move up; beyond the last place stands 0, as `moved_up` has it. By get and unwrap_or a close took half as long again (tried).
+// What comes to stand at place i, which the closure below knows to be one, when those after p move up; beyond the last place stands 0, as `moved_up` has it. By get and unwrap_or a close took half as long again (tried).
 fn next(order: &[u8; Coordinator::JOBS], p: usize, i: usize) -> u8
     requires { (i < jobs) × (length order.now ≡ jobs) }
     ensures { result ≡ entry order.now (i + tally (not (ltb i p))) }

@@ -14,7 +14,7 @@ fn ticket_at(tickets: &[u16; Coordinator::JOBS], j: u8) -> u16
     tickets.get(j as usize).copied().unwrap_or(0)
 }
 
-// The tickets of the n open jobs in the order of their opening, with zeros after them: there is no heap for a Vec.
+// The tickets of the n open jobs, no more than there are slots, in the order of their opening, with zeros after them: there is no heap for a Vec.
 pub(crate) fn held_tickets(
     tickets: &[u16; Coordinator::JOBS],
     order: &[u8; Coordinator::JOBS],

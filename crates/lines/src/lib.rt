@@ -24,7 +24,7 @@ pub struct Played {
     pub wrote: usize,
 }
 
-// Plays all the records, and writes a line for each.
+// Plays all the records, and writes a line for each. A line begins where the one before it ended, unlike a row of the library: what the two loops share is `Tested`.
 fn play_all(state: &mut Coordinator, start: u64, records: &[u8], out: &mut [u8]) -> Played
     requires { (start < 2 ^ 63) × (length records.now / 4 < length out.old / longest) }
     ensures { Counts result.wrote out.new × (◌≡◌ {A = Playing} (record { played = Some result; state = state.new; out = out.new }) (all state.old start records.now out.old)) }

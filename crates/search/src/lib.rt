@@ -120,7 +120,7 @@ impl Walker<'_> {
     }
 }
 
-// Database u is ahead of each of the slots. By a shift, as all that is put in here: `with_member` would test again what is known.
+// Database u is ahead of each of the slots. As `lead_to` of the coordinator, which is lent a part of its table: one for both would be longer than the two. By a shift, as all that is put in here: `with_member` would test again what is known.
 #[tactic(auto, using(mask::proofs::Walking::left_done), unfolding(crate::specs::Visit::put_ahead))]
 fn put_ahead(ahead: &mut [u16; Slot::COUNT], slots: u32, u: usize)
     requires { u < databases }
@@ -147,7 +147,7 @@ fn has(slots: u32, v: Slot) -> bool
     (slots >> v.0) % 2 == 1
 }
 
-// The slots of `all` but v that are not reached: those that are would be passed over one by one.
+// The slots of `all` but v that are not reached: those that are would be passed over one by one. That v is a slot, here and in `has`, `Standing` says.
 #[tactic(auto, using(crate::proofs::Trying::others_are))]
 fn others(all: u32, reached: u32, v: Slot) -> u32
     requires { v.0 < jobs }
