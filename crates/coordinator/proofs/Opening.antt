@@ -25,7 +25,7 @@ use Rattle.coordinator.specs.Limits.{jobs, databases}
 use Rattle.coordinator.specs.Views.{entry, in_mask, names, open_slots, open_count, ticket, opened, into, dep}
 use Rattle.coordinator.specs.Refusal.{slot_refusal, open_refusal_tested}
 use Rattle.coordinator.specs.Change.{mark, lead, taken, with_dependencies}
-use Rattle.coordinator.specs.Open.{free_slot, held_tickets, ticket_for, entered, with_found, added, accepted, after_open_tested}
+use Rattle.coordinator.specs.Open.{free_slot, held_tickets, ticket_for, entered, with_found, added, accepted}
 use Rattle.coordinator.specs.Open as open_spec
 use Rattle.coordinator.specs.Tables.{ticket_at}
 use Rattle.coordinator.proofs.Reach.{ticket_there}
