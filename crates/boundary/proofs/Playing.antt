@@ -10,7 +10,7 @@ use lib.ListN.{length, get_or}
 use Rattle.coordinator.specs.declared.Coordinator.{Coordinator}
 use Rattle.layout.specs.Put.{put}
 use Rattle.layout.specs.Bytes.{number_at}
-use Rattle.layout.proofs.Put.{put_all, Filled}
+use Rattle.layout.proofs.Put.{put_all, Filled, filled_long}
 use Rattle.layout.proofs.Numbers.{length_pieces, pieces_none, pieces_turn}
 use Rattle.record.specs.Answer.{answer}
 use Rattle.boundary.specs.Row.{row_size, row}
@@ -44,6 +44,9 @@ module _ (s : Coordinator) (records o : List ℕ) where
   pub going_start : Going s o 0
   unfolding state_after rows
   going_start = record { here = omega arith; state = refl; filled = pieces_none row_size (row_at s records) long o 0 (omega arith) }
+
+  pub going_long : (t : Coordinator) (left : List ℕ) (i : ℕ) → Going t left i → length left ≡ length o
+  going_long t left i g = filled_long o 0 (rows s records i) (0 + row_size * i) left g.filled
 
   pub going_on : (t : Coordinator) (left : List ℕ) (i : ℕ) (c : Option Call) (t₁ : Coordinator) (left₁ : List ℕ) (p : ℕ) → length o ≡ row_size * (length records / 4) → i < length records / 4 → Going t left i →
       c ≡ record_at records i → p ≡ row_size * i → Answers t c left p left₁ t₁ → Going t₁ left₁ (i + 1)

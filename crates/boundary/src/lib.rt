@@ -43,8 +43,9 @@ pub extern "C" fn play_records(state: &mut [u8], records: &[u8], answers: &mut [
     if answers.len() / ROW_SIZE != records.len() / 4 {
         return WRONG_LENGTH;
     }
-    let left = play_all(decode(state), records, answers);
-    encode(left, state);
+    let mut tested = Tested::new(decode(state));
+    play_all(&mut tested, records, answers);
+    encode(&tested.state, state);
     0
 }
 
@@ -56,7 +57,7 @@ pub extern "C" fn fresh_state(state: &mut [u8], first: u16) -> u8
     if state.len() != STATE_SIZE {
         return WRONG_LENGTH;
     }
-    encode(Coordinator::fresh(Ticket(first)), state);
+    encode(&Coordinator::fresh(Ticket(first)), state);
     0
 }
 
@@ -73,7 +74,7 @@ fn call(state: &mut [u8], asked: Request, answer: &mut [u8]) -> u8
     let mut tested = Tested::new(decode(state));
     let row = tested.play(Ok(asked));
     put_row(&row, answer, 0);
-    encode(tested.state, state);
+    encode(&tested.state, state);
     0
 }
 

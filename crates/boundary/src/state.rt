@@ -7,9 +7,11 @@ use crate::bytes::Number;
 use coordinator::Coordinator;
 use numbers::NumberMaker;
 
-pub(crate) fn encode(s: Coordinator, out: &mut [u8])
+// Lent and inlined, so that no call makes room for another copy of the state.
+#[inline(always)]
+pub(crate) fn encode(s: &Coordinator, out: &mut [u8])
     requires { length out.old ≡ state_size }
-    ensures { out.new ≡ encoded s }
+    ensures { out.new ≡ encoded s.now }
 {
     put_all(&s.tickets, out, 0);
     s.held.put(out, 64);

@@ -81,7 +81,7 @@ among_held s j e =
 
 module _ {s₀ : Coordinator} {first : ℕ} {s : Coordinator} {tickets : List ℕ} {count next : ℕ} (g : Going s₀ first s tickets count next) where
   module _ (n : ¬ (next ≡ 0)) where
-    going_lowest : Lowest jobs next (lowest jobs next)
+    pub going_lowest : Lowest jobs next (lowest jobs next)
     going_lowest = trailing_lowest jobs next (omega arith) g.fits
 
     one_less : size jobs (bit_or s.held next) ≡ size jobs (excluding (bit_or s.held next) (lowest jobs next)) + 1

@@ -16,7 +16,7 @@ use Rattle.tables.specs.Tables.{open_in}
 use Rattle.coordinator.specs.declared.Coordinator.{Coordinator}
 use Rattle.coordinator.specs.Limits.{jobs, databases}
 use Rattle.coordinator.specs.Shape.{Sized, Shape}
-use Rattle.coordinator.specs.Views.{entry, in_mask, names, asked, released, confirmed, open_slots, is_open, open_count, into, dep}
+use Rattle.coordinator.specs.Views.{entry, in_mask, names, asked, released, confirmed, open_slots, is_open, open_count, held, into, dep}
 
 -- n sets of numbers below w
 
@@ -36,6 +36,10 @@ module _ {n w : ℕ} {l : List ℕ} (h : Sized n w l) where
 -- the views of a state
 
 module _ (s : Coordinator) (h : Shape s) where
+  pub in_mask_range : (j k : ℕ) → in_mask s j k ≡ true → (j < jobs) × (k < databases)
+  unfolding in_mask
+  in_mask_range j k e = in_range h.named j k e
+
   pub names_range : (j k : ℕ) → names s j k ≡ true → (j < jobs) × (k < databases)
   unfolding names in_mask
   names_range j k e = in_range h.named j k e
@@ -51,6 +55,10 @@ module _ (s : Coordinator) (h : Shape s) where
   pub confirmed_range : (j k : ℕ) → confirmed s j k ≡ true → (j < jobs) × (k < databases)
   unfolding confirmed
   confirmed_range j k e = in_range h.confirmed j k e
+
+  pub held_range : (j : ℕ) → held s j ≡ true → j < jobs
+  unfolding held
+  held_range j e = holds_below jobs s.held j h.held e
 
   pub into_small : (k b : ℕ) → into s k b < 2 ^ jobs
   unfolding into

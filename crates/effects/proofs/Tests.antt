@@ -64,11 +64,11 @@ pub record ToClose (s : Coordinator) (f : ℕ) : Type 0 where
   pub goes : may_close s f ≡ true
 
 module _ (s : Coordinator) where
-  may_go_at_lem : (k j : ℕ) → j < jobs → holds (may_go_at s k) j ≡ asked s j k && not (released s j k) && may_go s j k
+  pub may_go_at_lem : (k j : ℕ) → j < jobs → holds (may_go_at s k) j ≡ asked s j k && not (released s j k) && may_go s j k
   unfolding may_go_at
   may_go_at_lem k j l = holds_gather (λ j. asked s j k && not (released s j k) && may_go s j k) jobs j l
 
-  may_go_at_small : (k : ℕ) → may_go_at s k < 2 ^ jobs
+  pub may_go_at_small : (k : ℕ) → may_go_at s k < 2 ^ jobs
   unfolding may_go_at
   may_go_at_small k = gathered_lt (λ j. asked s j k && not (released s j k) && may_go s j k) jobs
 
@@ -76,11 +76,11 @@ module _ (s : Coordinator) where
   unfolding may_go_at
   none_may_go k = gathered_none (λ j. asked s j k && not (released s j k) && may_go s j k) jobs
 
-  may_close_now_lem : (j : ℕ) → j < jobs → holds (may_close_now s) j ≡ held s j && may_close s j
+  pub may_close_now_lem : (j : ℕ) → j < jobs → holds (may_close_now s) j ≡ held s j && may_close s j
   unfolding may_close_now
   may_close_now_lem j l = holds_gather (λ j. held s j && may_close s j) jobs j l
 
-  may_close_now_small : may_close_now s < 2 ^ jobs
+  pub may_close_now_small : may_close_now s < 2 ^ jobs
   unfolding may_close_now
   may_close_now_small = gathered_lt (λ j. held s j && may_close s j) jobs
 
@@ -89,7 +89,7 @@ module _ (s : Coordinator) where
   none_may_close = gathered_none (λ j. held s j && may_close s j) jobs
 
   -- whichever goes, it is one of them: only this is used of the choice
-  first_of_lem : (m : ℕ) → m < 2 ^ jobs → ¬ (m ≡ 0) → (first_of s m < jobs) × (holds m (first_of s m) ≡ true)
+  pub first_of_lem : (m : ℕ) → m < 2 ^ jobs → ¬ (m ≡ 0) → (first_of s m < jobs) × (holds m (first_of s m) ≡ true)
   unfolding first_of
   first_of_lem m b ne =
       let l = trailing_lowest jobs m (omega arith) b in

@@ -1,9 +1,10 @@
 -- The loop of `play_all`: what is done, with what is still to be done, is the whole. Assumes nothing.
-use Prim.Native.Nat.{ℕ, suc, ◌+◌, ◌*◌, ◌/◌, ◌≤◌, ◌<◌}
+use Prim.Native.Nat.{ℕ, suc, ◌+◌, ◌*◌, ◌/◌, ◌%◌, ◌≤◌, ◌<◌}
 use mathlib.Core.Path.{◌≡◌, refl, sym, ap, ◌∙◌}
 use Rattle.std.specs.Prelude.{Some}
 use mathlib.Core.List.{List, [], ◌∷◌, ◌++◌}
 use native.Mathlib.Omega.{arith}
+use Rattle.std.specs.Simd.{first_chunks}
 use lib.ListN.{length, drop, get_or, length-append, length-drop, drop_of_length-le}
 use lib.Seq.{drop-cons}
 use Rattle.coordinator.specs.declared.Coordinator.{Coordinator}
@@ -50,6 +51,15 @@ none : (i : ℕ) (s : Coordinator) (b : List ℕ) (at : ℕ) → length b ≤ at
 unfolding lines_of state_after
 none i s b at h = rw (drop_of_length-le b h) (refl, refl)
 
+-- what the chunks of a slice are, where it holds all of the bytes
+pub record Parts (b : List ℕ) (whole : List (List ℕ)) (rest : List ℕ) : Type 0 where
+  pub front : whole ≡ first_chunks 4 (length b / 4) b
+  pub count : length whole ≡ length b / 4
+  pub left : length rest ≡ length b % 4
+
+pub parts : (x b : List ℕ) (whole : List (List ℕ)) (rest : List ℕ) → x ≡ b → whole ≡ first_chunks 4 (length x / 4) x → length whole ≡ length x / 4 → length rest ≡ length x % 4 → Parts b whole rest
+parts x b whole rest e f c l = rw (← e) (record { front = f; count = c; left = l })
+
 pub record Going (index : ℕ) (s : Coordinator) (b o₀ o : List ℕ) (t : Coordinator) (i at w : ℕ) : Type 0 where
   pub here : at ≤ length b
   pub count : 4 * i ≡ 4 * index + at
@@ -58,6 +68,9 @@ pub record Going (index : ℕ) (s : Coordinator) (b o₀ o : List ℕ) (t : Coor
   pub size : w + length (lines_of i t (drop at b)) ≡ length (lines_of index s b)
   pub text : put o w (lines_of i t (drop at b)) ≡ put o₀ 0 (lines_of index s b)
   pub left : state_after t (drop at b) ≡ state_after s b
+
+pub start : (index : ℕ) (s : Coordinator) (b o : List ℕ) → Going index s b o o s index 0 0
+start index s b o = record { here = omega arith; count = omega arith; room = omega arith; long = refl; size = omega arith; text = refl; left = refl }
 
 -- what is returned and left, from its parts
 ended : (s : Coordinator) (index : ℕ) (b o₀ : List ℕ) (t : Coordinator) (i w : ℕ) (o : List ℕ) → t ≡ state_after s b → i ≡ index + lines_in b → w ≡ length (lines_of index s b) →

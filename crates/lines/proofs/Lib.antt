@@ -1,3 +1,4 @@
+pub mod Decimal
 pub mod Line
 pub mod Told
 pub mod Pieces

@@ -10,7 +10,7 @@ use Rattle.loops.proofs.Sums.{tally_le}
 use Rattle.mask.specs.Member.{digit, holds}
 use Rattle.mask.specs.Members.{over_members, gather}
 use Rattle.std.proofs.lemmas.Nat.Bits.{bit_at-pow_other, bit_at-pow_same, bit_at-zero, bit_at_above, bit_at_or}
-use Rattle.mask.proofs.Holds.{holds_none}
+use Rattle.mask.proofs.Holds.{holds_none, holds_beyond}
 use Rattle.mask.proofs.Equal.{same_members}
 
 leaf_lt : (d n : ℕ) → d < 2 → d * 2 ^ n < 2 ^ suc n
@@ -66,11 +66,18 @@ module _ (p : ℕ → Bool) where
       by true = refl
       by false = refl
 
+  pub holds_gather_beyond : (n j : ℕ) → n ≤ j → holds (gather n (λ j. tally (p j))) j ≡ false
+  holds_gather_beyond n j l = holds_beyond n _ j (gathered_lt n) l
+
   pub gathered_none : (n : ℕ) → (gather n (λ j. tally (p j)) ≡ 0) ↔ ((j : ℕ) → j < n → p j ≡ false)
   gathered_none n = (
     λ e j l. sym (holds_gather n j l) ∙ rw e (holds_none j),
     λ e. same_members n _ 0 (gathered_lt n) (pow_pos n) (λ j l. holds_gather n j l ∙ e j l ∙ sym (holds_none j)),
   )
+
+-- a set is what its members gather
+pub gather_members : (n m : ℕ) → m < 2 ^ n → gather n (λ j. tally (holds m j)) ≡ m
+gather_members n m h = same_members n _ m (gathered_lt (holds m) n) h (λ j l. holds_gather (holds m) n j l)
 
 -- for the gathering loop: its start, a turn, its end
 pub gather_none : (d : ℕ → ℕ) → 0 ≡ gather 0 d

@@ -1,13 +1,13 @@
 -- What a set holds after a change: each operation on sets is the operation on tests, at every index. Assumes nothing.
-use Rattle.std.proofs.Common.{◌≡◌, ℕ, zero, suc, ◌-◌, ◌^◌, ◌<◌, ◌≤◌, min, max, Bool, true, false, not, ◌&&◌, ◌||◌, eqb, sym, refl, ap, ◌∙◌, lt_of_lt_of_le, arith, pow_pos, eq-eqb, ne_eqb, eqb-true}
+use Rattle.std.proofs.Common.{◌≡◌, ℕ, zero, suc, ◌-◌, ◌^◌, ◌<◌, ◌≤◌, min, max, Bool, true, false, not, ◌&&◌, ◌||◌, eqb, ltb, sym, refl, ap, ◌∙◌, lt_of_lt_of_le, arith, pow_pos, ltb-false, ltb-true, eq-eqb, ne_eqb, eqb-true}
 use native.Mathlib.Decide.{dec_lt}
 use borrow.Author.Tests.{eqb-false}
 use lib.Bits.{bit_and, bit_or}
 use Rattle.loops.specs.Sum.{tally}
 use Rattle.loops.proofs.Tests.{both}
-use Rattle.mask.specs.Member.{digit, holds, including, excluding, less}
+use Rattle.mask.specs.Member.{digit, holds, including, excluding, joined, less}
 use Rattle.std.proofs.lemmas.Nat.Bits.{bit_at-lt, bit_at-pow_other, bit_at-pow_same, bit_at-zero, bit_at_above, bit_at_and, bit_at_or}
-use Rattle.mask.proofs.Change.{digit_not, including_same, including_other, excluding_same, excluding_other, less_lt, member_le}
+use Rattle.mask.proofs.Change.{digit_not, including_same, including_other, excluding_same, excluding_other, joined_below, joined_beyond, less_lt, member_le}
 
 -- members and digits
 
@@ -64,6 +64,13 @@ holds_including m k j = by (eqb j k) refl
     by : (b : Bool) → eqb j k ≡ b → holds (including m k) j ≡ b || holds m j
     by true e = rw (eqb-true j k e) (holds_of (including m k) k (including_same m k))
     by false e = rw (including_other m k j (eqb-false j k e))
+
+pub holds_joined : (n m k j : ℕ) → holds (joined n m k) j ≡ ltb k n && eqb j k || holds m j
+holds_joined n m k j = by (ltb k n) refl
+  where
+    by : (b : Bool) → ltb k n ≡ b → holds (joined n m k) j ≡ b && eqb j k || holds m j
+    by true e = ap (λ (x : ℕ). holds x j) (joined_below n m k (ltb-true k n e)) ∙ holds_including m k j
+    by false e = ap (λ (x : ℕ). holds x j) (sym (joined_beyond n m k (ltb-false k n e)))
 
 pub holds_excluding : (m k j : ℕ) → holds (excluding m k) j ≡ not (eqb j k) && holds m j
 holds_excluding m k j = by (eqb j k) refl

@@ -1,14 +1,14 @@
 -- Trailing zeros find the lowest member; those of the complement find the lowest number that is missing. Assumes nothing.
-use Rattle.std.proofs.Common.{◌≡◌, ℕ, zero, suc, ◌-◌, ◌*◌, ◌/◌, ◌%◌, ◌^◌, ◌<◌, ◌≤◌, true, false, sym, refl, ◌∙◌, le_antisymm, pow-suc, arith, pow_pos}
+use Rattle.std.proofs.Common.{◌≡◌, ℕ, zero, suc, ◌-◌, ◌*◌, ◌/◌, ◌%◌, ◌^◌, ◌<◌, ◌≤◌, true, false, ◌↔◌, sym, refl, ◌∙◌, le_antisymm, pow-suc, arith, pow_pos}
 use native.Mathlib.Decide.{dec_lt}
 use borrow.Author.Tests.{eqb-false, not-true}
-use lib.Count.{count_trailing_zeros, under, trailing_le}
+use lib.Count.{count_trailing_zeros, under, trailing_of_zero, trailing_le}
 use Rattle.loops.proofs.Tests.{both, and_left, and_right}
 use Rattle.mask.specs.Member.{digit, holds, less, within, lowest}
 use Rattle.mask.specs.Lowest.{Lowest, Free}
 use Rattle.std.proofs.lemmas.Nat.Bits.{bit_at-lt, bit_at-suc, bit_at_lowest}
 use Rattle.mask.proofs.Change.{digit_not, less_lt}
-use Rattle.mask.proofs.Holds.{holds_of, holds_not, holds_pos, holds_less_any}
+use Rattle.mask.proofs.Holds.{holds_of, holds_not, holds_pos, holds_all, holds_less_any}
 
 pub trailing_lowest : (n m : ℕ) → 0 < m → m < 2 ^ n → Lowest n m (lowest n m)
 unfolding count_trailing_zeros
@@ -62,6 +62,9 @@ within_not n a b ha hb e =
     let q = sym (holds_less_any n a b j ha hb) ∙ p in
     (j, and_left (holds a j) _ q, not-true (holds b j) (and_right (holds a j) _ q))
 
+pub lowest_none : (n : ℕ) → lowest n 0 ≡ n
+lowest_none n = trailing_of_zero n
+
 pub lowest_at_most : (n m : ℕ) → lowest n m ≤ n
 lowest_at_most n m = trailing_le n m
 
@@ -79,3 +82,15 @@ free_of n m h =
 
 pub free_holds : {n m w : ℕ} → Free n m w → holds m w ≡ false
 free_holds {n} {m} {w} f = holds_not m w f.off
+
+pub free_below : {n m w : ℕ} → Free n m w → (j : ℕ) → j < w → holds m j ≡ true
+free_below {n} {m} {w} f j h = holds_of m j (f.below j h)
+
+-- below n some number is missing just where m is not full
+pub missing_iff : (n m : ℕ) → m < 2 ^ n → (m < 2 ^ n - 1) ↔ ((j : ℕ) × (j < n) × (holds m j ≡ false))
+missing_iff n m h = (λ l. let f = free_of n m l in (_, f.within, free_holds f), λ e. not_full e.0 e.1 e.2)
+  where
+    not_full : (j : ℕ) → j < n → holds m j ≡ false → m < 2 ^ n - 1
+    not_full j l e =
+        let ne : ¬ (m ≡ 2 ^ n - 1) = λ p. both (holds_all n j l) (rw p at e) in
+        omega arith

@@ -1,5 +1,5 @@
 -- How many members: the sum over the members, what one more or less makes of it, and where it is 0 or the whole width. Assumes nothing.
-use Rattle.std.proofs.Common.{◌≡◌, ℕ, zero, suc, ◌+◌, ◌-◌, ◌*◌, ◌/◌, ◌%◌, ◌^◌, ◌<◌, ◌≤◌, Bool, true, false, eqb, ◌⊎◌, ◌↔◌, sym, refl, ap, ◌∙◌, ap₂, inl, inr, pow-suc, mul-one, arith, eq-eqb, ne_eqb, eqb-true}
+use Rattle.std.proofs.Common.{◌≡◌, ℕ, zero, suc, ◌+◌, ◌-◌, ◌*◌, ◌/◌, ◌%◌, ◌^◌, ◌<◌, ◌≤◌, Bool, true, false, eqb, ◌⊎◌, ◌↔◌, sym, refl, ap, ◌∙◌, ap₂, inl, inr, pow-suc, mul-one, arith, pow_pos, eq-eqb, ne_eqb, eqb-true}
 use lib.Arith.{lt-one}
 use lib.Count.{ones, ones_in, ones_step, ones-ones}
 use lib.Pow.{ones_lt}
@@ -77,6 +77,13 @@ size_within n a b h le j l e = by (holds a j) refl
 
 pub size_none : (n : ℕ) → size n 0 ≡ 0
 size_none n = size_sum n 0 ∙ sum_zero n _ (λ k l. ap tally (holds_none k))
+
+pub size_none_iff : (n m : ℕ) → m < 2 ^ n → (size n m ≡ 0) ↔ (m ≡ 0)
+size_none_iff n m h = (λ e. same_members n m 0 h (pow_pos n) (λ j l. off e j l (holds m j) refl ∙ sym (holds_none j)), λ e. rw e (size_none n))
+  where
+    off : size n m ≡ 0 → (j : ℕ) → j < n → (b : Bool) → holds m j ≡ b → holds m j ≡ false
+    off e j l true p = absurd (omega (arith, size_excluding n m j l p))
+    off e j l false p = p
 
 pub size_all : (n : ℕ) → size n (2 ^ n - 1) ≡ n
 size_all n = sym (ones_in_lem n (2 ^ n - 1) (ones_lt n)) ∙ ones-ones n

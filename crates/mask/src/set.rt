@@ -123,7 +123,7 @@ impl Set for u32 {
     const WIDTH: u8 = 32;
 
     fn word(self) -> u64 {
-        u64::from(self)
+        self.into()
     }
 
     fn of_word(word: u64) -> u32 {

@@ -2,7 +2,7 @@
 -- Assumes nothing: these are definitions.
 use Rattle.std.specs.Prelude.{get_or, ◌%◌, ◌^◌, ℕ, Bool, List, ◌≡◌, Option, Result}
 use Rattle.loops.specs.Sum.{tally, sum}
-use Rattle.mask.specs.Members.{gather}
+use Rattle.mask.specs.Members.{Takes, gather}
 use Rattle.refusals.specs.Number.{number}
 use Rattle.mask.specs.Member.{holds, joined, excluding, less, lowest, size}
 use Rattle.numbers.specs.declared.NumberMaker.{NumberMaker}
@@ -14,8 +14,8 @@ use Rattle.tables.specs.Tables.{open_in, holders_in}
 use Rattle.tables.specs.Test.{sound_in}
 use Rattle.tables.specs.Limits.{jobs, databases}
 use Rattle.refusals.specs.declared.refusal.Refusal.{Refusal}
-use Rattle.refusals.specs.Refusal.{slot_refusal, step_refusal, job_refusal}
-use Rattle.refusals.specs.Outcome.{outcome}
+use Rattle.refusals.specs.Refusal.{slot_refusal, step_above, step_refusal, job_refusal}
+use Rattle.refusals.specs.Outcome.{outcome, outcome_or}
 use Rattle.coordinator.specs.declared.Coordinator.{Coordinator}
 use Rattle.coordinator.specs.Fresh.{fresh}
 use Rattle.coordinator.specs.Test.{sound}
@@ -55,6 +55,9 @@ pub record Determined : Type 0 where
   pub of_open : (sound : Bool) (mask slots : ℕ) → Determines (λ (r : Result Unit Refusal). r ≡ outcome (slot_refusal sound mask (size jobs slots)))
   pub of_step : (sound : Bool) (found k : ℕ) (names applies : Bool) (own : Refusal)
       → Determines (λ (r : Result Unit Refusal). r ≡ outcome (step_refusal sound found k names applies own))
+  -- and where the own row of a step has any number, and the rows above it those of their refusals
+  pub of_step_numbered : (sound : Bool) (found k : ℕ) (names applies : Bool) (own : ℕ)
+      → Determines (λ (r : Result Unit ℕ). r ≡ outcome_or number (step_above sound found k names) applies own)
   pub of_close : (sound : Bool) (found : ℕ) (confirmed held : Bool) → Determines (λ (r : Result Unit Refusal). r ≡ outcome (job_refusal sound found confirmed held))
   pub refusal_number : (refusal : Refusal) → Determines (λ (r : ℕ). r ≡ number refusal)
   -- the opening search
@@ -76,4 +79,6 @@ pub record Determined : Type 0 where
   pub word_of : (m : ℕ) → Determines (λ (r : ℕ). r ≡ m)
   pub of_word : (n w : ℕ) → Determines (λ (r : ℕ). r ≡ w % 2 ^ n)
   pub members_of : (m : ℕ) → Determines (λ (left : ℕ). left ≡ m)
+  -- of a turn of a walk: the member that it gives, and what is left
+  pub next_member : (n m : ℕ) → Determines (λ (r : Option ℕ × ℕ). Takes n m r.0 r.1)
   pub gathered : (p : ℕ → Bool) → Determines (λ (r : ℕ). r ≡ gather 32 (λ j. tally (p j)))

@@ -25,15 +25,20 @@ slot_rows is_sound mask count =
 unfoldable pub slot_refusal : Bool → ℕ → ℕ → Option Refusal
 slot_refusal is_sound mask count = first_row (slot_rows is_sound mask count)
 
--- the rows of ask and confirm: whether the state is sound, the slots that hold the ticket, whether the job names database k; the last row is the call's own
-abbrev pub step_rows : Bool → ℕ → ℕ → Bool → Bool → Refusal → List Row
-step_rows is_sound found k names applies own =
+-- the rows of ask and confirm: whether the state is sound, the slots that hold the ticket, whether the job names database k; then the call's own
+abbrev pub rows_above : Bool → ℕ → ℕ → Bool → List Row → List Row
+rows_above is_sound found k names own =
     record { applies = not is_sound; refusal = Unsound }
     ∷ record { applies = eqb found 0; refusal = NoJob }
     ∷ record { applies = not (ltb k databases); refusal = NoDatabase }
     ∷ record { applies = not names; refusal = NotNamed }
-    ∷ record { applies = applies; refusal = own }
-    ∷ []
+    ∷ own
+
+unfoldable pub step_above : Bool → ℕ → ℕ → Bool → Option Refusal
+step_above is_sound found k names = first_row (rows_above is_sound found k names [])
+
+abbrev pub step_rows : Bool → ℕ → ℕ → Bool → Bool → Refusal → List Row
+step_rows is_sound found k names applies own = rows_above is_sound found k names (record { applies = applies; refusal = own } ∷ [])
 
 unfoldable pub step_refusal : Bool → ℕ → ℕ → Bool → Bool → Refusal → Option Refusal
 step_refusal is_sound found k names applies own = first_row (step_rows is_sound found k names applies own)

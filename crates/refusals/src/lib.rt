@@ -5,8 +5,8 @@ mod refusal;
 ghost use Rattle.std.specs.Prelude.{◌≡◌};
 ghost use Rattle.mask.specs.Member.{size};
 ghost use Rattle.tables.specs.Limits.{jobs};
-ghost use Rattle.refusals.specs.Refusal.{slot_refusal, step_refusal, job_refusal};
-ghost use Rattle.refusals.specs.Outcome.{outcome};
+ghost use Rattle.refusals.specs.Refusal.{slot_refusal, step_above, job_refusal};
+ghost use Rattle.refusals.specs.Outcome.{outcome, outcome_or};
 
 use mask::Set;
 use numbers::{Database, Slot};
@@ -30,28 +30,29 @@ pub fn of_open(sound: bool, mask: u16, slots: u32) -> Result<(), Refusal>
 }
 
 // Of ask and confirm. `found` are the slots that hold the ticket, `names` says whether the job names database k; the last row is the call's own.
-#[tactic(auto, unfolding(crate::specs::Refusal::step_refusal, crate::specs::Refusal::first_row))]
-pub fn of_step(
+// What the own row refuses with is a value of any type that has one for each refusal, as u8 has its number.
+#[tactic(auto, unfolding(crate::specs::Refusal::step_above, crate::specs::Refusal::first_row))]
+pub fn of_step<E: From<Refusal> + Drop>(
     sound: bool,
     found: u32,
     k: Database,
     names: bool,
     applies: bool,
-    own: Refusal,
-) -> Result<(), Refusal>
-    ensures { result ≡ outcome (step_refusal sound found k.0 names applies own) }
+    own: E,
+) -> Result<(), E>
+    ensures { (f : Refusal → E) → ((r : Refusal) (e : E) → E.from_gives r e → e ≡ f r) → result ≡ outcome_or f (step_above sound found k.0 names) applies own }
 {
     if !sound {
-        return Err(Refusal::Unsound);
+        return Err(E::from(Refusal::Unsound));
     }
     if found == 0 {
-        return Err(Refusal::NoJob);
+        return Err(E::from(Refusal::NoJob));
     }
     if k.0 as usize >= Database::COUNT {
-        return Err(Refusal::NoDatabase);
+        return Err(E::from(Refusal::NoDatabase));
     }
     if !names {
-        return Err(Refusal::NotNamed);
+        return Err(E::from(Refusal::NotNamed));
     }
     if applies {
         return Err(own);

@@ -49,7 +49,7 @@ module _ (named dependencies : Bor (List ℕ)) (n : Slot) where
   abbrev g : Given
   g = given s
 
-  begin_ready : n.0 < jobs → Ready g s
+  pub begin_ready : n.0 < jobs → Ready g s
   begin_ready new = record {
     same = refl;
     new_job = new;

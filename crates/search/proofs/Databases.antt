@@ -116,7 +116,7 @@ module _ {s : Walker} {v : ℕ} {through : Option Database} (asked : BeforeJob s
       by false = refl
 
   -- from v one may go on through each of those taken
-  taken_standing : (u : ℕ) → holds m₀ u ≡ true → Standing g v u
+  pub taken_standing : (u : ℕ) → holds m₀ u ≡ true → Standing g v u
   taken_standing u e =
       let p : not (eqb u via) && sets.has s.ahead u v ≡ true = sym (member u) ∙ e in
       let q = h.ahead_named v u hv (and_right (not (eqb u via)) (sets.has s.ahead u v) p) in

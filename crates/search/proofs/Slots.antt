@@ -84,7 +84,10 @@ module _ {v u : ℕ} {s t : Walker} {m : ℕ} (at : AtSlots v u s t m) where
     low : Lowest jobs m w
     low = rw e (trailing_lowest jobs m (omega arith) at.below)
 
-    slot_fresh : Fresh g t.reached v u w
+    pub slot_below : w < jobs
+    slot_below = low.within
+
+    pub slot_fresh : Fresh g t.reached v u w
     slot_fresh = at.fresh w (lowest_holds low)
 
     -- the three ways that a turn can go
@@ -96,11 +99,11 @@ module _ {v u : ℕ} {s t : Walker} {m : ℕ} (at : AtSlots v u s t m) where
     is_new = ap (λ (x : Given). x.new) at.onward.ready.same
 
     module _ (st : Standing g v u) where
-      turn_held : holds (get_or t.dependencies.now (u * jobs + w) 0) v ≡ true → Turned g v u w t t
+      pub turn_held : holds (get_or t.dependencies.now (u * jobs + w) 0) v ≡ true → Turned g v u w t t
       turn_held d = record { onward = onward_refl at.onward.ready; hit = λ l. both (sym is_dependency ∙ d) l.free }
 
       module _ (d : holds (get_or t.dependencies.now (u * jobs + w) 0) v ≡ false) where
-        slot_link : Link (graph_of g) u v w
+        pub slot_link : Link (graph_of g) u v w
         slot_link = record {
           job = low.within;
           database = st.database;
@@ -110,7 +113,7 @@ module _ {v u : ℕ} {s t : Walker} {m : ℕ} (at : AtSlots v u s t m) where
           free = sym is_dependency ∙ d;
         }
 
-        turn_closes : w ≡ t.job.0 → Turned g v u w t (record t { found = put_in t.found u v })
+        pub turn_closes : w ≡ t.job.0 → Turned g v u w t (record t { found = put_in t.found u v })
         turn_closes new = record { onward = closing_on st at.onward.ready (new ∙ is_new) slot_link; hit = λ l. closing_hit st at.onward.ready (new ∙ is_new) slot_link }
 
         -- what the visit of w asks, and that fewer pairs are left to it
@@ -132,7 +135,7 @@ module _ {v u : ℕ} {s t : Walker} {m : ℕ} (at : AtSlots v u s t m) where
             },
           )
 
-          turn_forward : (r : Walker) → JobVisited goes w (Some (record { 0 = u })) r → Turned g v u w t r
+          pub turn_forward : (r : Walker) → JobVisited goes w (Some (record { 0 = u })) r → Turned g v u w t r
           turn_forward r k =
               let on : Onward g goes r = subst (λ (x : Given). Onward x goes r) at.onward.ready.same k.onward in
               record {
@@ -161,7 +164,7 @@ module _ {v u : ℕ} {s t : Walker} {m : ℕ} (at : AtSlots v u s t m) where
           by false q (inl h) = inl (kept j ∙ rw (q, h))
 
       -- nothing more is reached
-      slots_rest : {r : Walker} → r.reached ≡ t.reached → Turned g v u w t r → AtSlots v u s r x
+      pub slots_rest : {r : Walker} → r.reached ≡ t.reached → Turned g v u w t r → AtSlots v u s r x
       slots_rest same now = record {
         onward = onward_then at.onward now.onward;
         below = rw p (excluding_lt jobs m (lowest jobs m) at.below);
@@ -170,7 +173,7 @@ module _ {v u : ℕ} {s t : Walker} {m : ℕ} (at : AtSlots v u s t m) where
       }
 
       -- k is to try of x, once more is reached
-      slots_turn : {r : Walker} {k : ℕ} → Others x (get_or r.reached u 0) v k → Turned g v u w t r → AtSlots v u s r k
+      pub slots_turn : {r : Walker} {k : ℕ} → Others x (get_or r.reached u 0) v k → Turned g v u w t r → AtSlots v u s r k
       slots_turn {r} {k} o now = record {
         onward = onward_then at.onward now.onward;
         below = o.below;

@@ -36,7 +36,7 @@ ticket_at_lem tickets slots j = by (holds slots j)
     by true = refl
     by false = and_true (eqb (entry tickets j) 0)
 
-tickets_are : (tickets : List ℕ) (slots : ℕ)
+pub tickets_are : (tickets : List ℕ) (slots : ℕ)
     → every jobs (no_ticket tickets slots) && every jobs (own_ticket tickets slots) ≡ every jobs (ticket_sound tickets slots)
 tickets_are tickets slots = sym (every_both jobs (no_ticket tickets slots) (own_ticket tickets slots)) ∙ every_same jobs _ _ (λ j l. ticket_at_lem tickets slots j)
 
@@ -113,7 +113,7 @@ module _ (tickets : List ℕ) (slots : ℕ) where
   own_at j false e h = rw e
 
   -- where the ticket of slot j is not new, it is not its own
-  not_own : (seen j : ℕ) → holds slots j ≡ true → new_ticket tickets slots seen j ≡ false → own_ticket tickets slots j ≡ false
+  pub not_own : (seen j : ℕ) → holds slots j ≡ true → new_ticket tickets slots seen j ≡ false → own_ticket tickets slots j ≡ false
   unfolding own_ticket new_ticket
   not_own seen j o e = rw o (or_false (eqb (bit_and seen (2 ^ (entry tickets j % 64))) 0) _ e).1
 

@@ -1,4 +1,4 @@
-use Rattle.std.proofs.Common.{arith}
+use Rattle.std.proofs.Common.{◌∙◌, arith}
 use Rattle.boundary.proofs.Cases.{records_wrong_state, records_wrong, answers_wrong, records_right}
 use Rattle.boundary.proofs.play_records.Goals as goal
 
@@ -19,6 +19,6 @@ returns-then-answers-records c =
 pub returns : goal.returns
 returns c =
     records_right _ _ _ c.if-state-ne-STATE_SIZE.false c.if-records-ne0.false (omega (arith, c.if-answers-ne0.false, c.if-answers-records.false)) _ _ _ _
-    c.decode.ensures
-    c.play_all-left.ensures
+    (c.new-tested.ensures ∙ c.decode.ensures)
+    c.play_all.ensures
     c.encode.ensures

@@ -14,6 +14,4 @@ loop-i-preserved c =
     (plays_answers _ _ _ _ _ _ _ c.play-answer.ensures c.put_row.ensures)
 
 pub returns : goal.returns
-returns c =
-    rw (← c.new-tested.ensures)
-    (going_done _ _ _ _ _ _ c.requires (omega (arith, c.loop-i-test.false, c.as_chunks.ensures.front_len)) c.loop-i.invariant)
+returns c = going_done _ _ _ _ _ _ c.requires (omega (arith, c.loop-i-test.false, c.as_chunks.ensures.front_len)) c.loop-i.invariant
