@@ -52,10 +52,10 @@ pub trait Set: Copy {
         ensures { number result ≡ excluding (number self) k }
     {
         let m = self.word();
-        if k < Self::WIDTH {
-            Self::of_word(m & !(1 << k))
-        } else {
+        if k >= Self::WIDTH {
             self
+        } else {
+            Self::of_word(m & !(1 << k))
         }
     }
 
